@@ -5,3 +5,4 @@ pub mod DecimalLaws
 pub mod HexLaws
 pub mod KindLaws
 pub mod TickLaws
+pub mod LineLaws

@@ -2,9 +2,10 @@
 ghost use mathlib.Core.Path.{_≡_};
 ghost use Prim.Native.Nat.{_%_, _<_, _≤_};
 ghost use lib.ListN.{length};
-ghost use Rattle.rows.specs.Fields.{HexField, ReadsHex};
-ghost use Rattle.rows.specs.Grammar.{ReadAs};
+ghost use Rattle.rows.specs.Fields.{ReadsHex};
 ghost use Rattle.rows.specs.Rows.{hexDigit};
+ghost use Rattle.rows.specs.Spans.{SpanAt};
+use crate::found::Span;
 
 /// Whether a byte is one of 0 to 9 and a to f.
 fn is_hex(b: u8) -> bool
@@ -31,15 +32,14 @@ fn hex(rest: &[u8], most: usize, end: u8) -> Result<usize, usize>
 }
 
 /// Reads the digits of a field and the byte `end` behind them from place `at` of a text.
-pub(crate) fn hex_at<'a>(text: &'a [u8], at: usize, most: usize, end: u8) -> Result<(&'a [u8], usize), usize>
+pub(crate) fn hex_at(text: &[u8], at: usize, most: usize, end: u8) -> Result<(Span, usize), usize>
     requires within { ⌜ at ≤ length (now text) ⌝ }
     requires even { ⌜ most % 2 ≡ 0 ⌝ }
     requires mark { ⌜ end < 48 ⌝ }
-    ensures { λ r. ⌜ ReadAs now (HexField most end) (now (text .entry)) at r ⌝ }
+    ensures { λ r. ⌜ SpanAt most end (now (text .entry)) at r ⌝ }
 {
-    let rest = &text[at..];
-    match hex(rest, most, end) {
-        Ok(long) => Ok((&rest[0..long], at + long + 1)),
+    match hex(&text[at..], most, end) {
+        Ok(long) => Ok((Span { start: at, end: at + long }, at + long + 1)),
         Err(long) => Err(at + long),
     }
 }

@@ -1,0 +1,1 @@
+//! Looking ahead in a text.
