@@ -6,3 +6,5 @@ pub mod HexLaws
 pub mod KindLaws
 pub mod TickLaws
 pub mod LineLaws
+pub mod TextLaws
+pub mod ReadLaws

@@ -76,10 +76,11 @@ impl<'a> Reader<'a> {
     pub fn row(&self) -> RowEntry<'a>
         ensures { λ r. ⌜ row-of r ≡ row-under (now (self .entry)) ⌝ }
     {
-        let Found { seq, kind, create_ts, expire_ts, key, value } = self.found;
         let text = self.text;
-        let digits = &text[value.start..value.end];
-        let value = value_of(kind, digits);
-        RowEntry { seq, create_ts, expire_ts, key: &text[key.start..key.end], value }
+        let (start, end) = (self.found.key.start, self.found.key.end);
+        let key = &text[start..end];
+        let (start, end) = (self.found.value.start, self.found.value.end);
+        let value = value_of(self.found.kind, &text[start..end]);
+        RowEntry { seq: self.found.seq, create_ts: self.found.create_ts, expire_ts: self.found.expire_ts, key, value }
     }
 }
