@@ -8,3 +8,4 @@ pub mod TickLaws
 pub mod LineLaws
 pub mod TextLaws
 pub mod ReadLaws
+pub mod SeenLaws

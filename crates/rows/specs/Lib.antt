@@ -6,3 +6,4 @@ pub mod Spans
 pub mod Entries
 pub mod Sizes
 pub mod Reading
+pub mod Blocks

@@ -1,6 +1,6 @@
 -- What a found row says of its text.
 use mathlib.Core.List.{List}
-use Prim.Native.Nat.{ℕ, _-_, _≤_}
+use Prim.Native.Nat.{ℕ, _+_, _-_, _/_, _≤_}
 use lib.ListN.{length, take, drop}
 use Rattle.rows.specs.declared.found.Span.{Span}
 use Rattle.rows.specs.declared.found.Found.{Found}
@@ -38,3 +38,7 @@ SpanAt most end t i (Err p) = DamageAt (Lang (HexField most end)) t i p
 abbrev pub LineAt : List ℕ → ℕ → Result (Found × ℕ) ℕ → Type 0
 LineAt t i (Ok x) = FieldAt Line t i (found-values t (x .0)) (x .1) × Within t (x .0 .key) × Within t (x .0 .value)
 LineAt t i (Err p) = DamageAt (Lang Line) t i p
+
+-- the bytes of a found key and value
+abbrev pub spans : Found → ℕ
+spans f = (f .key .end - f .key .start) / 2 + (f .value .end - f .value .start) / 2

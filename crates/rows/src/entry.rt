@@ -6,6 +6,8 @@ ghost use Prim.Native.Nat.{_^_, _<_};
 ghost use Rattle.rows.specs.Rows.{Hex, digits-of, fits, kind-of, room};
 use crate::types::ValueDeletable;
 
+mod methods;
+
 /// A row of a text. Its key and value are the hexadecimal digits of the line's fields.
 ///
 /// A row whose number, ticks, key or value no line can hold cannot be made.

@@ -1,4 +1,5 @@
 //! Rows of the journal: lines read and written, and their sizes.
+mod block;
 mod decimal;
 mod entry;
 mod found;
@@ -6,11 +7,16 @@ mod hex;
 mod kind;
 mod line;
 mod reader;
+mod sizes;
 mod tick;
 mod types;
 
+pub use block::BadBlockSize;
+pub use block::BlockSize;
 pub use entry::RowEntry;
 pub use reader::Reader;
+pub use sizes::estimate_encoded_size_compacted;
+pub use sizes::estimate_encoded_size_wal;
 pub use types::Damage;
 pub use types::Kind;
 pub use types::ValueDeletable;
