@@ -9,3 +9,5 @@ pub mod LineLaws
 pub mod TextLaws
 pub mod ReadLaws
 pub mod SeenLaws
+pub mod SpellLaws
+pub mod WriteLaws

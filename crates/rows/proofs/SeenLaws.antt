@@ -1,17 +1,22 @@
 -- Rows that were read from a place on.
 use mathlib.Core.Path.{_≡_, refl, ap, sym, _∙_, subst}
+use mathlib.Core.Bool.{Bool, true}
 use mathlib.Core.List.{List, [], _∷_, _++_}
 use Prim.Native.Nat.{ℕ, _+_, _-_, _*_, _/_, _<_, _≤_}
 use native.Mathlib.Nat.{zero-add}
 use native.Mathlib.Omega.{arith}
+use lib.IntN.{ℤ}
 use lib.ListN.{length, take, drop, length-append, length-drop}
 use Rattle.std.proofs.shelf.Lists.{take-append-drop, take-at, take-all, length-take-le}
+use Rattle.std.specs.declared.option.Option.{Option}
+use Rattle.std.specs.declared.option.Option.the-variants.{Some, None}
+use Rattle.std.specs.declared.result.Result.the-variants.{Ok}
 use Rattle.rows.specs.declared.found.Found.{Found}
 use Rattle.rows.specs.Rows.{Row, Valid}
 use Rattle.rows.specs.Lines.{line, TextOf}
-use Rattle.rows.specs.Sizes.{total, weight, size}
+use Rattle.rows.specs.Sizes.{total, weight, size, tick-size}
 use Rattle.rows.specs.Spans.{Within, cut, spans, found-row}
-use Rattle.rows.specs.Reading.{Handed}
+use Rattle.rows.specs.Reading.{Handed, Advances}
 use Rattle.rows.proofs.Lists.{take-plus, drop-on}
 use Rattle.rows.proofs.TextLaws.{text-append, text-one}
 
@@ -74,3 +79,17 @@ cut-length t f k v =
 -- a row has no more bytes than its line
 pub weight-le : (r : Row) → weight r + 1 ≤ length (line r)
 weight-le r = simp length-append (omega arith)
+
+pub size-le : (r : Row) → size r ≤ 24 * length (line r)
+size-le r = omega (arith, weight-le r, tick-le (r .created), tick-le (r .expires))
+  where
+    tick-le : (c : Option ℤ) → tick-size c ≤ 8
+    tick-le None = omega arith
+    tick-le (Some z) = omega arith
+
+-- one call of `advance` that went on
+pub seen-advance : (t u : List ℕ) (s p n b q : ℕ) (was r : Row) (went : Bool) → u ≡ t → went ≡ true → Seen size t s p n b → Advances u p q was r (Ok went) → q ≤ length u → Seen size t s q (n + 1) (b + size r) × (q ≡ p + length (line r))
+seen-advance t u s p n b q was r went e is g a le =
+    let h : Handed u p q r = subst (λ w. Advances u p q was r (Ok w)) is a in
+    let k : Handed t p q r = subst (λ l. Handed l p q r) e h in
+    (seen-more size t s p n b q r g k (subst (λ l. q ≤ length l) e le), k .place)

@@ -7,3 +7,5 @@ pub mod Entries
 pub mod Sizes
 pub mod Reading
 pub mod Blocks
+pub mod Checks
+pub mod Writing
