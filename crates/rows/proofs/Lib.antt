@@ -11,3 +11,4 @@ pub mod ReadLaws
 pub mod SeenLaws
 pub mod SpellLaws
 pub mod WriteLaws
+pub mod CopyLaws

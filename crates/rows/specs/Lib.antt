@@ -9,3 +9,4 @@ pub mod Reading
 pub mod Blocks
 pub mod Checks
 pub mod Writing
+pub mod Rewriting

@@ -1,4 +1,5 @@
 //! Rows of the journal: lines read and written, and their sizes.
+mod again;
 mod block;
 mod decimal;
 mod entry;
@@ -21,6 +22,10 @@ pub use fault::CheckFault;
 pub use fault::CheckFaultDebug;
 pub use fault::CheckFaultPartialEq;
 pub use reader::Reader;
+pub use again::RewriteFault;
+pub use again::RewriteFaultDebug;
+pub use again::RewriteFaultPartialEq;
+pub use again::rewrite;
 pub use sizes::estimate_encoded_size_compacted;
 pub use sizes::estimate_encoded_size_wal;
 pub use text::Checked;
