@@ -5,12 +5,10 @@ ghost use Rattle.rows.specs.Rewriting.{Begun, Rewrites};
 ghost use Rattle.rows.specs.declared.again.RewriteFault.the-variants.{Damaged as WasDamaged, NoMemory as HadNoMemory};
 use crate::reader::Reader;
 use crate::types::Damage;
-use crate::types::DamageDebug;
-use crate::types::DamagePartialEq;
 use std::alloc::AllocError;
 
 /// Why a text was not written again.
-#[derive(Clone, Copy, PartialEq, Eq, Debug)]
+#[derive(Clone, Copy)]
 pub enum RewriteFault {
     /// The text is not well-formed.
     Damaged(Damage),

@@ -3,11 +3,9 @@ ghost use mathlib.Core.Path.{_≡_};
 ghost use Rattle.rows.specs.declared.fault.CheckFault.the-variants.{Damaged as WasDamaged, BlockSize as WasBlockSize};
 use crate::block::BadBlockSize;
 use crate::types::Damage;
-use crate::types::DamageDebug;
-use crate::types::DamagePartialEq;
 
 /// Why `check` refuses.
-#[derive(Clone, Copy, PartialEq, Eq, Debug)]
+#[derive(Clone, Copy)]
 pub enum CheckFault {
     /// The text is not well-formed.
     Damaged(Damage),

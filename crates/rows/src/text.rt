@@ -13,14 +13,14 @@ use crate::sizes::wal;
 use crate::types::Damage;
 
 /// How many rows a text has, and their sizes in all.
-#[derive(Clone, Copy, PartialEq, Eq, Debug)]
+#[derive(Clone, Copy)]
 pub struct Totals {
     pub rows: u64,
     pub size: u128,
 }
 
 /// A text's rows, their sizes in all, and both estimates of a table that holds them.
-#[derive(Clone, Copy, PartialEq, Eq, Debug)]
+#[derive(Clone, Copy)]
 pub struct Checked {
     pub rows: u64,
     pub size: u128,

@@ -12,7 +12,7 @@ pub enum ValueDeletable<'a> {
 }
 
 /// The kind of a row, one letter of its line.
-#[derive(Clone, Copy, PartialEq, Eq, Debug)]
+#[derive(Clone, Copy)]
 pub enum Kind {
     Value,
     Merge,
@@ -20,7 +20,7 @@ pub enum Kind {
 }
 
 /// Where a text stops being one that rows write.
-#[derive(Clone, Copy, PartialEq, Eq, Debug)]
+#[derive(Clone, Copy)]
 pub struct Damage {
     /// One more than the line ends before the place.
     pub line: usize,

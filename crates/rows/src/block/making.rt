@@ -3,7 +3,7 @@ ghost use Rattle.rows.specs.Blocks.{Makes};
 use super::BlockSize;
 
 /// A block size that is 0 or above 65,536.
-#[derive(Clone, Copy, PartialEq, Eq, Debug)]
+#[derive(Clone, Copy)]
 pub struct BadBlockSize(pub u64);
 
 impl BlockSize {
