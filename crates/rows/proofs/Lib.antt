@@ -9,6 +9,3 @@ pub mod LineLaws
 pub mod TextLaws
 pub mod ReadLaws
 pub mod SeenLaws
-pub mod SpellLaws
-pub mod WriteLaws
-pub mod CopyLaws

@@ -7,6 +7,3 @@ pub mod Entries
 pub mod Sizes
 pub mod Reading
 pub mod Blocks
-pub mod Checks
-pub mod Writing
-pub mod Rewriting

@@ -1,33 +1,24 @@
-//! Rows of the journal: lines read and written, and their sizes.
-mod again;
+//! Rows of the journal: their lines read, and their sizes.
 mod block;
 mod decimal;
 mod entry;
-mod fault;
 mod found;
 mod hex;
 mod kind;
 mod line;
 mod reader;
 mod sizes;
-mod text;
 mod tick;
+mod totals;
 mod types;
-mod write;
 
 pub use block::BadBlockSize;
 pub use block::BlockSize;
 pub use entry::RowEntry;
-pub use fault::CheckFault;
 pub use reader::Reader;
-pub use again::RewriteFault;
-pub use again::rewrite;
 pub use sizes::estimate_encoded_size_compacted;
 pub use sizes::estimate_encoded_size_wal;
-pub use text::Checked;
-pub use text::Totals;
-pub use text::check;
-pub use text::read_text;
+pub use totals::Totals;
 pub use types::Damage;
 pub use types::Kind;
 pub use types::ValueDeletable;
