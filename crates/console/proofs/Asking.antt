@@ -5,11 +5,11 @@ use Prim.Native.Nat.{ℕ}
 use Rattle.std.specs.declared.option.Option.{Option}
 use Rattle.std.specs.declared.option.Option.the-variants.{Some}
 use Rattle.std.specs.declared.result.Result.the-variants.{Err}
-use Rattle.console.specs.declared.call.Text.{Text}
-use Rattle.console.specs.declared.reason.Reason.the-variants.{WrongWords}
+use Rattle.script.specs.declared.call.Text.{Text}
+use Rattle.script.specs.declared.reason.Reason.the-variants.{WrongWords}
 use Rattle.console.specs.Commands.{Checks}
-use Rattle.console.specs.Words.{others}
-use Rattle.console.proofs.Wording.{words-some}
+use Rattle.script.specs.Words.{others}
+use Rattle.script.proofs.Wording.{words-some}
 
 -- a word too many
 pub checks-extra : (line : List ℕ) (behind : Option (List ℕ)) (t : Text) (text : Option Text) → behind ≡ Some line → text ≡ Some t → Checks (others behind) text (Err WrongWords)

@@ -1,9 +1,2 @@
 pub mod Asking
-pub mod Calling
-pub mod Lining
-pub mod Numbers
-pub mod Pairs
-pub mod Parting
-pub mod Reading
 pub mod Setting
-pub mod Wording

@@ -9,11 +9,11 @@ use Rattle.std.specs.declared.result.Result.{Result}
 use Rattle.std.specs.declared.result.Result.the-variants.{Ok, Err}
 use Rattle.console.specs.declared.options.Changes.{Changes}
 use Rattle.console.specs.declared.options.Setting.{Setting}
-use Rattle.console.specs.declared.reason.Reason.{Reason}
-use Rattle.console.specs.Parts.{Parts}
+use Rattle.script.specs.declared.reason.Reason.{Reason}
+use Rattle.script.specs.Parts.{Parts}
 use Rattle.console.specs.Settings.{Changed, Sets, with}
-use Rattle.console.specs.Words.{others}
-use Rattle.console.proofs.Wording.{words-first}
+use Rattle.script.specs.Words.{others}
+use Rattle.script.proofs.Wording.{words-first}
 
 -- a word that is a setting
 pub set-more : (rest : Option (List ℕ)) (line front : List ℕ) (behind : Option (List ℕ)) (c d : Changes) (s : Setting) (r : Result Changes Reason) → rest ≡ Some line → Parts 32 line front behind → Sets front (Ok s) → d ≡ with c s → Changed (others behind) d r → Changed (others rest) c r

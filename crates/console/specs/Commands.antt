@@ -8,11 +8,11 @@ use Rattle.std.specs.declared.option.Option.{Option}
 use Rattle.std.specs.declared.option.Option.the-variants.{Some, None}
 use Rattle.std.specs.declared.result.Result.{Result}
 use Rattle.std.specs.declared.result.Result.the-variants.{Ok, Err}
-use Rattle.console.specs.declared.call.Text.{Text}
+use Rattle.script.specs.declared.call.Text.{Text}
 use Rattle.console.specs.declared.command.Command.{Command}
 use Rattle.console.specs.declared.command.Command.the-variants.{Check, Options}
-use Rattle.console.specs.declared.reason.Reason.{Reason}
-use Rattle.console.specs.declared.reason.Reason.the-variants.{UnknownCommand, WrongWords, NoText, UnknownOption}
+use Rattle.script.specs.declared.reason.Reason.{Reason}
+use Rattle.script.specs.declared.reason.Reason.the-variants.{UnknownCommand, WrongWords, NoText, UnknownOption}
 use Rattle.console.specs.Settings.{Changed, none}
 
 -- what `check` asks for, with the words behind it and the text

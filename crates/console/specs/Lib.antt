@@ -1,13 +1,4 @@
 pub mod Answers
-pub mod Calls
 pub mod Commands
-pub mod Hexadecimal
-pub mod Lines
-pub mod Numerals
-pub mod Parts
-pub mod Reasons
-pub mod Scripts
 pub mod Sessions
 pub mod Settings
-pub mod Texts
-pub mod Words

@@ -11,21 +11,21 @@ use Rattle.row_text.specs.declared.text.Checked.{Checked}
 use Rattle.row_text.specs.Checks.{Checks}
 use Rattle.console.specs.declared.answer.Answer.{Answer}
 use Rattle.console.specs.declared.answer.Answer.the-variants as answer
-use Rattle.console.specs.declared.call.Call.{Call}
-use Rattle.console.specs.declared.call.Text.{Text}
+use Rattle.script.specs.declared.call.Call.{Call}
+use Rattle.script.specs.declared.call.Text.{Text}
 use Rattle.console.specs.declared.command.Command.{Command}
 use Rattle.console.specs.declared.command.Command.the-variants.{Check, Options}
-use Rattle.console.specs.declared.hex.TextFault.the-variants as fault
-use Rattle.console.specs.declared.reason.Reason.{Reason}
-use Rattle.console.specs.declared.reason.Reason.the-variants.{NotHex}
+use Rattle.script.specs.declared.hex.TextFault.the-variants as fault
+use Rattle.script.specs.declared.reason.Reason.{Reason}
+use Rattle.script.specs.declared.reason.Reason.the-variants.{NotHex}
 use Rattle.console.specs.declared.session.Session.{Session}
 use Rattle.console.specs.declared.session.Stop.{Stop}
 use Rattle.console.specs.declared.session.Stop.the-variants.{Script, NoMemory}
 use Rattle.console.specs.Answers.{noted}
 use Rattle.console.specs.Commands.{Asks}
 use Rattle.console.specs.Settings.{changed}
-use Rattle.console.specs.Texts.{Is, Lacks}
-use Rattle.console.specs.Words.{words}
+use Rattle.script.specs.Texts.{Is, Lacks}
+use Rattle.script.specs.Words.{words}
 
 -- options and account are as they were
 pub record Same (s t : Session) : Type 0 where

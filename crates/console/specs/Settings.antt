@@ -13,9 +13,9 @@ use Rattle.console.specs.declared.options.Changes.{Changes}
 use Rattle.console.specs.declared.options.Options.{Options}
 use Rattle.console.specs.declared.options.Setting.{Setting}
 use Rattle.console.specs.declared.options.Setting.the-variants.{BlockSize}
-use Rattle.console.specs.declared.reason.Reason.{Reason}
-use Rattle.console.specs.declared.reason.Reason.the-variants.{UnknownCommand, WrongWords, NoText, TextNotEnded, NotHex, UnknownOption, Number}
-use Rattle.console.specs.Numerals.{Reads}
+use Rattle.script.specs.declared.reason.Reason.{Reason}
+use Rattle.script.specs.declared.reason.Reason.the-variants.{UnknownCommand, WrongWords, NoText, TextNotEnded, NotHex, UnknownOption, Number}
+use Rattle.script.specs.Numerals.{Reads}
 
 -- what a word sets: an option's name, `=` and its number
 abbrev pub Sets : List ℕ → Result Setting Reason → Type 0

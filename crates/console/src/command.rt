@@ -1,14 +1,14 @@
 //! What the calls of a script ask for.
 ghost use Rattle.std.specs.Options.{mapped};
 ghost use Rattle.console.specs.Commands.{Alters, Asks, Checks};
-ghost use Rattle.console.specs.Words.{others, words};
-use crate::call::Call;
-use crate::call::Text;
+ghost use Rattle.script.specs.Words.{others, words};
 use crate::options::Changes;
 use crate::options::changes_of;
-use crate::parts::first_word;
-use crate::parts::is_word;
-use crate::reason::Reason;
+use script::call::Call;
+use script::call::Text;
+use script::parts::first_word;
+use script::parts::is_word;
+use script::reason::Reason;
 
 /// A call that the console performs.
 #[derive(Clone, Copy)]
@@ -41,18 +41,16 @@ fn options<'a>(behind: Option<&'a [u8]>, text: Option<Text<'a>>) -> Result<Comma
     }
 }
 
-impl<'a> Call<'a> {
-    /// The command that the call is.
-    pub fn command(self) -> Result<Command<'a>, Reason>
-        ensures { λ r. ⌜ Asks (words (now (self .entry .words))) (self .entry .text) r ⌝ }
-    {
-        let parted = first_word(self.words);
-        if is_word(parted.front, b"check") {
-            check(parted.behind, self.text)
-        } else if is_word(parted.front, b"options") {
-            options(parted.behind, self.text)
-        } else {
-            Err(Reason::UnknownCommand)
-        }
+/// The command that a call is.
+pub fn command_of<'a>(call: Call<'a>) -> Result<Command<'a>, Reason>
+    ensures { λ r. ⌜ Asks (words (now (call .entry .words))) (call .entry .text) r ⌝ }
+{
+    let parted = first_word(call.words);
+    if is_word(parted.front, b"check") {
+        check(parted.behind, call.text)
+    } else if is_word(parted.front, b"options") {
+        options(parted.behind, call.text)
+    } else {
+        Err(Reason::UnknownCommand)
     }
 }

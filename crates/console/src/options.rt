@@ -2,11 +2,11 @@
 ghost use mathlib.Core.Path.{_≡_};
 ghost use Rattle.std.specs.Options.{mapped};
 ghost use Rattle.console.specs.Settings.{Changed, Sets, changed, none, with};
-ghost use Rattle.console.specs.Words.{others};
-use crate::number::number;
-use crate::parts::after;
-use crate::parts::part;
-use crate::reason::Reason;
+ghost use Rattle.script.specs.Words.{others};
+use script::number::number;
+use script::parts::after;
+use script::parts::part;
+use script::reason::Reason;
 
 /// The values that later calls use.
 #[derive(Clone, Copy)]

@@ -3,13 +3,14 @@ ghost use mathlib.Core.Path.{_≡_};
 ghost use Rattle.console.specs.Sessions.{Performs, Tests};
 use crate::account::Account;
 use crate::answer::Answer;
-use crate::call::Call;
-use crate::call::Text;
 use crate::command::Command;
-use crate::hex::TextFault;
-use crate::hex::decode;
+use crate::command::command_of;
 use crate::options::Options;
-use crate::reason::Reason;
+use script::call::Call;
+use script::call::Text;
+use script::hex::TextFault;
+use script::hex::decode;
+use script::reason::Reason;
 use std::alloc::Global;
 
 /// What the calls of a script work on.
@@ -70,7 +71,7 @@ impl Session {
     pub fn perform(&mut self, call: Call<'_>) -> Result<Option<Answer>, Stop>
         ensures { λ r. ⌜ Performs (now (self .entry)) (call .entry) r (now (self .exit)) ⌝ }
     {
-        match call.command() {
+        match command_of(call) {
             Ok(Command::Check(text)) => match self.check(text) {
                 Ok(answer) => Ok(Some(answer)),
                 Err(stop) => Err(stop),

@@ -33,12 +33,14 @@ pub copied-more : (t u before after then : List ℕ) (p q : ℕ) (was r : Row) (
 copied-more t u before after then p q was r went e is g a o =
     let h : Handed t p q r = subst (λ l. Handed l p q r) e (subst (λ w. Advances u p q was r (Ok w)) is a) in
     let l : take (length (line r)) (drop p t) ≡ line r = ap (take (length (line r))) (h .text) ∙ take-at (line r) (drop q t) (length (line r)) refl in
-    let w : take q t ≡ take p t ++ line r = ap (λ k. take k t) (h .place) ∙ take-plus p (length (line r)) t ∙ ap (λ x. take p t ++ x) l in
-    (record {
-      rows = g .rows ++ (r ∷ []);
-      text = subst (TextOf (g .rows ++ (r ∷ []))) (sym w) (text-append (g .rows) (r ∷ []) _ _ (g .text) (text-one r (h .valid)));
-      out = o ∙ ap (λ x. x ++ line r) (g .out) ∙ append-assoc before (take p t) (line r) ∙ ap (λ x. before ++ x) (sym w);
-    }, h .place)
+    let w : take q t ≡ take p t ++ line r = ap (λ k. take k t) (h .place) ∙ take-plus p (length (line r)) t ∙ ap (λ x. take p t ++ x) l in (
+      record {
+        rows = g .rows ++ (r ∷ []);
+        text = subst (TextOf (g .rows ++ (r ∷ []))) (sym w) (text-append (g .rows) (r ∷ []) _ _ (g .text) (text-one r (h .valid)));
+        out = o ∙ ap (λ x. x ++ line r) (g .out) ∙ append-assoc before (take p t) (line r) ∙ ap (λ x. before ++ x) (sym w);
+      },
+      h .place,
+    )
 
 pub copied-all : (t before after : List ℕ) (p : ℕ) → length t ≤ p → Copied t before after p → WellFormed t × (after ≡ before ++ t)
 copied-all t before after p le g =

@@ -47,7 +47,7 @@ more n rest at buffer s ten =
       within = omega arith;
       long = length-set buffer (at - 1) d ∙ s .long;
       digits = s .digits ∙ ap (λ l. l ++ drop at buffer) (decimal-step rest ten (omega arith)) ∙ append-assoc (decimal (rest / 10)) (d ∷ []) (drop at buffer)
-        ∙ ap (λ l. decimal (rest / 10) ++ l) (sym (put-digit at d buffer (some-room n rest at buffer s) (omega arith)));
+          ∙ ap (λ l. decimal (rest / 10) ++ l) (sym (put-digit at d buffer (some-room n rest at buffer s) (omega arith)));
     }
 
 pub last : (n rest at : ℕ) (buffer : List ℕ) → Spelt n rest at buffer → rest < 10 → drop (at - 1) (set buffer (at - 1) (48 + rest)) ≡ decimal n

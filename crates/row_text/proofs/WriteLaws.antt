@@ -32,7 +32,7 @@ four a b c d e w x y z p q r s = both a b e w (x ++ (y ++ z)) p (both b c e x (y
 
 -- the three parts of a line are the line
 pub written : (n c x k v w : List ℕ) (b : ℕ) → v ≡ w
-  → (n ++ (9 ∷ b ∷ 9 ∷ [])) ++ ((c ++ (9 ∷ (x ++ (9 ∷ [])))) ++ (k ++ (9 ∷ (v ++ (10 ∷ []))))) ≡ n ++ (9 ∷ b ∷ 9 ∷ (c ++ (9 ∷ (x ++ (9 ∷ (k ++ (9 ∷ (w ++ (10 ∷ [])))))))))
+    → (n ++ (9 ∷ b ∷ 9 ∷ [])) ++ ((c ++ (9 ∷ (x ++ (9 ∷ [])))) ++ (k ++ (9 ∷ (v ++ (10 ∷ []))))) ≡ n ++ (9 ∷ b ∷ 9 ∷ (c ++ (9 ∷ (x ++ (9 ∷ (k ++ (9 ∷ (w ++ (10 ∷ [])))))))))
 written n c x k v w b e = simp (append-assoc, e)
 
 -- a signed number by its sign and its digits

@@ -4,8 +4,8 @@ ghost use Rattle.std.specs.Of.Vec.{vec-items};
 ghost use Rattle.row_text.specs.Rewriting.{Begun, Rewrites};
 ghost use Rattle.row_text.specs.declared.again.RewriteFault.the-variants.{Damaged as WasDamaged, NoMemory as HadNoMemory};
 use crate::write::write_row;
-use rows::Reader;
 use rows::Damage;
+use rows::Reader;
 use std::alloc::AllocError;
 
 /// Why a text was not written again.

@@ -41,5 +41,10 @@ pub fn check(text: &[u8], block_size: u64) -> Result<Checked, CheckFault>
     let block = BlockSize::new(block_size)?;
     let wal = estimate_encoded_size_wal(totals, block);
     let compacted = estimate_encoded_size_compacted(totals, block);
-    Ok(Checked { rows: totals.rows, size: totals.size, wal, compacted })
+    Ok(Checked {
+        rows: totals.rows,
+        size: totals.size,
+        wal,
+        compacted,
+    })
 }

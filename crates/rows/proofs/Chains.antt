@@ -40,8 +40,8 @@ module _ {A B : Type 0} (F : A → List ℕ → Type 0) (G : A → B → List �
         longest = record {
           within = omega (arith, d .longest .within, length-drop n t);
           shared = (
-            let v = d .longest .shared in
-            (v .0, ((a, v .1 .0), record { fore = take n t; back = take m (drop n t) ++ v .0; first = f; second = v .1 .1; whole = ap (λ l. l ++ v .0) (take-plus n m t) ∙ append-assoc (take n t) (take m (drop n t)) (v .0) })));
+              let v = d .longest .shared in
+              (v .0, ((a, v .1 .0), record { fore = take n t; back = take m (drop n t) ++ v .0; first = f; second = v .1 .1; whole = ap (λ l. l ++ v .0) (take-plus n m t) ∙ append-assoc (take n t) (take m (drop n t)) (v .0) })));
           stops = λ lt v.
               let e : take (n + m + 1) t ≡ take n t ++ take (m + 1) (drop n t) = ap (λ k. take k t) (add-assoc n m 1) ∙ take-plus n (m + 1) t in
               d .longest .stops (omega (arith, lt, length-drop n t)) (v .0, strip apart a (take n t) (take (m + 1) (drop n t) ++ v .0) f (subst (Lang (Then F G)) (ap (λ l. l ++ v .0) e ∙ append-assoc (take n t) (take (m + 1) (drop n t)) (v .0)) (v .1)));
@@ -58,7 +58,7 @@ module _ {A B : Type 0} (F : A → List ℕ → Type 0) (G : A → B → List �
   pub then-apart : Apart F → ((a : A) → Apart (G a)) → Apart (Then F G)
   then-apart p q ab cd x y s t f g e =
       let u : f .fore ++ (f .back ++ s) ≡ g .fore ++ (g .back ++ t) =
-            sym (append-assoc (f .fore) (f .back) s) ∙ ap (λ z. z ++ s) (sym (f .whole)) ∙ e ∙ ap (λ z. z ++ t) (g .whole) ∙ append-assoc (g .fore) (g .back) t in
+      sym (append-assoc (f .fore) (f .back) s) ∙ ap (λ z. z ++ s) (sym (f .whole)) ∙ e ∙ ap (λ z. z ++ t) (g .whole) ∙ append-assoc (g .fore) (g .back) t in
       let h = p (ab .0) (cd .0) (f .fore) (g .fore) (f .back ++ s) (g .back ++ t) (f .first) (g .first) u in
       let v : f .back ++ s ≡ g .back ++ t = append-cancel-left (g .fore) (f .back ++ s) (g .back ++ t) (ap (λ z. z ++ (f .back ++ s)) (sym (h .1)) ∙ u) in
       let R : A → Type 0 = λ z. G z (ab .1) (f .back) in
@@ -122,18 +122,19 @@ module _ {A : Type 0} (F : A → List ℕ → Type 0) where
   -- damage after texts that stand whole
   pub in-many : Apart F → (as₁ : List A) (t : List ℕ) (n m : ℕ) → n < length t → Many F as₁ (take n t) → Damaged (Lang F) (drop n t) m → Longest (Lang (Many F)) t (n + m) × (Lang (Many F) t → ⊥)
   in-many apart some t n m lt f d =
-      let e = in-first F (λ _. Many F) (λ _. ([], ([], refl))) d in
-      (record {
-        within = omega (arith, d .longest .within, length-drop n t);
-        shared = (
-          let v = d .longest .shared in
-          (v .0, (some ++ (v .1 .0 ∷ []), subst (Many F (some ++ (v .1 .0 ∷ []))) (sym (ap (λ l. l ++ v .0) (take-plus n m t) ∙ append-assoc (take n t) (take m (drop n t)) (v .0))) (many-append some (v .1 .0 ∷ []) (take n t) (take m (drop n t) ++ v .0) f (many-one (v .1 .0) _ (v .1 .1))))));
-        stops = λ less v.
-            let q : take (n + m + 1) t ++ v .0 ≡ take n t ++ (take (m + 1) (drop n t) ++ v .0) = ap (λ l. l ++ v .0) (ap (λ k. take k t) (add-assoc n m 1) ∙ take-plus n (m + 1) t) ∙ append-assoc (take n t) (take (m + 1) (drop n t)) (v .0) in
-            let w = many-strip apart some (v .1 .0) (take n t) (take (m + 1) (drop n t) ++ v .0) f (subst (Many F (v .1 .0)) q (v .1 .1)) in
-            let room : m + 1 ≤ length (drop n t) = omega (arith, less, length-drop n t) in
-            e .longest .stops (omega arith) (v .0, first-of _ (simp length-append (omega (arith, length-take-le (m + 1) (drop n t) room))) w);
-      },
-      (λ l.
-          let w = many-strip apart some (l .0) (take n t) (drop n t) f (subst (Many F (l .0)) (sym (take-append-drop n t)) (l .1)) in
-          e .none (length (drop n t)) (subst (Lang (Then F (λ _. Many F))) (sym (take-all _ (drop n t) (omega arith))) (first-of (drop n t) (omega (arith, lt, length-drop n t)) w))))
+      let e = in-first F (λ _. Many F) (λ _. ([], ([], refl))) d in (
+        record {
+          within = omega (arith, d .longest .within, length-drop n t);
+          shared = (
+              let v = d .longest .shared in
+              (v .0, (some ++ (v .1 .0 ∷ []), subst (Many F (some ++ (v .1 .0 ∷ []))) (sym (ap (λ l. l ++ v .0) (take-plus n m t) ∙ append-assoc (take n t) (take m (drop n t)) (v .0))) (many-append some (v .1 .0 ∷ []) (take n t) (take m (drop n t) ++ v .0) f (many-one (v .1 .0) _ (v .1 .1))))));
+          stops = λ less v.
+              let q : take (n + m + 1) t ++ v .0 ≡ take n t ++ (take (m + 1) (drop n t) ++ v .0) = ap (λ l. l ++ v .0) (ap (λ k. take k t) (add-assoc n m 1) ∙ take-plus n (m + 1) t) ∙ append-assoc (take n t) (take (m + 1) (drop n t)) (v .0) in
+              let w = many-strip apart some (v .1 .0) (take n t) (take (m + 1) (drop n t) ++ v .0) f (subst (Many F (v .1 .0)) q (v .1 .1)) in
+              let room : m + 1 ≤ length (drop n t) = omega (arith, less, length-drop n t) in
+              e .longest .stops (omega arith) (v .0, first-of _ (simp length-append (omega (arith, length-take-le (m + 1) (drop n t) room))) w);
+        },
+        (λ l.
+            let w = many-strip apart some (l .0) (take n t) (drop n t) f (subst (Many F (l .0)) (sym (take-append-drop n t)) (l .1)) in
+            e .none (length (drop n t)) (subst (Lang (Then F (λ _. Many F))) (sym (take-all _ (drop n t) (omega arith))) (first-of (drop n t) (omega (arith, lt, length-drop n t)) w))),
+      )

@@ -19,9 +19,9 @@ damaged L t i within v stuck before =
       none = λ m l.
           ⊎-elim
           (λ lt. ⊎-elim
-            (λ inside. stuck inside (drop (i + 1) (take m t), subst L (take-split t (i + 1) m (omega arith)) l))
-            (λ past. before m (subst L (ap (take m) (sym (take-all i t past))) l))
-            (order i (length t)))
+          (λ inside. stuck inside (drop (i + 1) (take m t), subst L (take-split t (i + 1) m (omega arith)) l))
+          (λ past. before m (subst L (ap (take m) (sym (take-all i t past))) l))
+          (order i (length t)))
           (λ le. before m (subst L (sym (take-take m i t le)) l))
           (order i m);
     }
@@ -36,9 +36,9 @@ lift {L = L} {M = M} {t = t} {n = n} begins on d =
       longest = record {
         within = d .longest .within;
         shared = (
-          let v = d .longest .shared in
-          let u = on _ (v .1) in
-          (v .0 ++ u .0, subst M (append-assoc (take n t) (v .0) (u .0)) (u .1)));
+            let v = d .longest .shared in
+            let u = on _ (v .1) in
+            (v .0 ++ u .0, subst M (append-assoc (take n t) (v .0) (u .0)) (u .1)));
         stops = λ lt v.
             let b = begins _ (v .1) in
             ⊎-elim

@@ -93,12 +93,12 @@ module _ (low top : ℕ) (little : low ≤ 1) (some : 0 < top) (fit : top < 2 ^ 
           written = λ _.
               ⊎-elim
               (λ h.
-                  let d : b ≡ 48 + (b - 48) = omega arith in
-                  ap (λ l. l ++ (b ∷ [])) (s .written (has-some h)) ∙ ap (λ x. decimal n ++ (x ∷ [])) d ∙ sym (decimal-more n (b - 48) h (omega arith) (omega (arith, f .below))))
+              let d : b ≡ 48 + (b - 48) = omega arith in
+              ap (λ l. l ++ (b ∷ [])) (s .written (has-some h)) ∙ ap (λ x. decimal n ++ (x ∷ [])) d ∙ sym (decimal-more n (b - 48) h (omega arith) (omega (arith, f .below))))
               (λ h.
-                  let d : b ≡ 48 + (n * 10 + (b - 48)) = omega arith in
-                  let e : length p ≡ 0 = ⊎-elim (λ z. true-eqb (length p) 0 (sym z)) (λ z. absurd (omega arith)) (f .lead) in
-                  ap (λ l. l ++ (b ∷ [])) (nil-from-length p e) ∙ ap (λ x. x ∷ []) d ∙ sym (decimal-digit (n * 10 + (b - 48)) (omega arith)))
+              let d : b ≡ 48 + (n * 10 + (b - 48)) = omega arith in
+              let e : length p ≡ 0 = ⊎-elim (λ z. true-eqb (length p) 0 (sym z)) (λ z. absurd (omega arith)) (f .lead) in
+              ap (λ l. l ++ (b ∷ [])) (nil-from-length p e) ∙ ap (λ x. x ∷ []) d ∙ sym (decimal-digit (n * 10 + (b - 48)) (omega arith)))
               (order 0 n);
         }
 
@@ -108,8 +108,8 @@ module _ (low top : ℕ) (little : low ≤ 1) (some : 0 < top) (fit : top < 2 ^ 
         ⊎-elim
         (λ h. (9 ∷ [], (n, record { above = s .least h; below = s .small; written = ap (λ l. l ++ (9 ∷ [])) (s .written h) })))
         (λ h.
-            let e = nil-from-length p (omega arith) in
-            (49 ∷ 9 ∷ [], (1, record { above = little; below = omega arith; written = ap (λ l. l ++ (49 ∷ 9 ∷ [])) e ∙ ap (λ l. l ++ (9 ∷ [])) (sym (decimal-digit 1 (omega arith))) })))
+        let e = nil-from-length p (omega arith) in
+        (49 ∷ 9 ∷ [], (1, record { above = little; below = omega arith; written = ap (λ l. l ++ (49 ∷ 9 ∷ [])) e ∙ ap (λ l. l ++ (9 ∷ [])) (sym (decimal-digit 1 (omega arith))) })))
         (order 0 (length p))
 
     -- a number that begins with them and b
@@ -134,18 +134,18 @@ module _ (low top : ℕ) (little : low ≤ 1) (some : 0 < top) (fit : top < 2 ^ 
           ⊎-elim
           (λ h. inr h)
           (λ h. ⊎-elim
-            (λ some.
-                let zero : n ≡ 0 = omega arith in
-                let q : p ≡ 48 ∷ [] = s .written some ∙ ap decimal zero ∙ decimal-digit 0 (omega arith) in
-                let f : decimal m ≡ 48 ∷ b ∷ z = e ∙ ap (λ l. l ++ (b ∷ z)) q in
-                ⊎-elim
-                (λ pos. absurd (omega (arith, first-decimal m pos small, ap (λ l. getD l 0 0) f)))
-                (λ no-pos.
-                    let w : m ≡ 0 = omega arith in
-                    absurd (omega (arith, ap length (sym (ap decimal w ∙ decimal-digit 0 (omega arith)) ∙ f))))
-                (order 0 m))
-            (λ none. inl (eq-eqb (length p) 0 (omega arith)))
-            (order 0 (length p)))
+          (λ some.
+          let zero : n ≡ 0 = omega arith in
+          let q : p ≡ 48 ∷ [] = s .written some ∙ ap decimal zero ∙ decimal-digit 0 (omega arith) in
+          let f : decimal m ≡ 48 ∷ b ∷ z = e ∙ ap (λ l. l ++ (b ∷ z)) q in
+          ⊎-elim
+          (λ pos. absurd (omega (arith, first-decimal m pos small, ap (λ l. getD l 0 0) f)))
+          (λ no-pos.
+          let w : m ≡ 0 = omega arith in
+          absurd (omega (arith, ap length (sym (ap decimal w ∙ decimal-digit 0 (omega arith)) ∙ f))))
+          (order 0 m))
+          (λ none. inl (eq-eqb (length p) 0 (omega arith)))
+          (order 0 (length p)))
           (order 0 n)
 
       -- where the range begins at 1, the first digit is no zero
@@ -154,14 +154,14 @@ module _ (low top : ℕ) (little : low ≤ 1) (some : 0 < top) (fit : top < 2 ^ 
           ⊎-elim
           (λ pos. omega arith)
           (λ none.
-              ⊎-elim
-              (λ d. omega (arith, letter .0))
-              (λ d.
-                  let zero : n ≡ 0 = omega arith in
-                  let q : length p ≡ 0 = ⊎-elim (λ h. absurd (omega (arith, ⊎-elim (λ z. true-eqb (length p) 0 (sym z)) (λ z. absurd (omega arith)) leads))) (λ h. omega arith) (order 0 (length p)) in
-                  let f : decimal m ≡ b ∷ z = e ∙ ap (λ l. l ++ (b ∷ z)) (nil-from-length p q) in
-                  ⊎-elim (λ pos. absurd (omega (arith, first-decimal m pos small, ap (λ l. getD l 0 0) f))) (λ h. omega arith) (order 0 m))
-              (order 48 b))
+          ⊎-elim
+          (λ d. omega (arith, letter .0))
+          (λ d.
+          let zero : n ≡ 0 = omega arith in
+          let q : length p ≡ 0 = ⊎-elim (λ h. absurd (omega (arith, ⊎-elim (λ z. true-eqb (length p) 0 (sym z)) (λ z. absurd (omega arith)) leads))) (λ h. omega arith) (order 0 (length p)) in
+          let f : decimal m ≡ b ∷ z = e ∙ ap (λ l. l ++ (b ∷ z)) (nil-from-length p q) in
+          ⊎-elim (λ pos. absurd (omega (arith, first-decimal m pos small, ap (λ l. getD l 0 0) f))) (λ h. omega arith) (order 0 m))
+          (order 48 b))
           (order 0 n)
 
     -- and with no bytes but these
@@ -172,8 +172,8 @@ module _ (low top : ℕ) (little : low ≤ 1) (some : 0 < top) (fit : top < 2 ^ 
         ⊎-elim
         (λ h. inl (h .1, omega (arith, decimal-some m (omega (arith, f .below)), ap length (h .0))))
         (λ h.
-            let told = letter b m (h .0) (f .above) (f .below) (h .1) in
-            inr (record { digit = told .0; nine = told .1; lead = leads b m (h .0) (f .above) (f .below) (h .1); above = over b m (h .0) (f .above) (f .below) (h .1); below = under b m (h .0) (f .above) (f .below) (h .1) }))
+        let told = letter b m (h .0) (f .above) (f .below) (h .1) in
+        inr (record { digit = told .0; nine = told .1; lead = leads b m (h .0) (f .above) (f .below) (h .1); above = over b m (h .0) (f .above) (f .below) (h .1); below = under b m (h .0) (f .above) (f .below) (h .1) }))
         (cut p (decimal m) b 9 (v .0) (sym (append-assoc p (b ∷ []) (v .0)) ∙ f .written))
 
     -- no field has ended in them
@@ -197,10 +197,10 @@ module _ (low top : ℕ) (little : low ≤ 1) (some : 0 < top) (fit : top < 2 ^ 
     stuck no-tab no-digit =
         damaged L t i within (viable s)
         (λ lt v.
-            ⊎-elim
-            (λ h. no-tab lt (h .0) (omega (arith, front, h .1)))
-            (λ h. no-digit lt (subst (λ k. Follows low top n (eqb k 0) (getD t i 0)) front h))
-            (goes s (getD t i 0) (subst (Viable L) (take-more t i 0 lt) v)))
+        ⊎-elim
+        (λ h. no-tab lt (h .0) (omega (arith, front, h .1)))
+        (λ h. no-digit lt (subst (λ k. Follows low top n (eqb k 0) (getD t i 0)) front h))
+        (goes s (getD t i 0) (subst (Viable L) (take-more t i 0 lt) v)))
         (open-yet s)
 
     pub step : i < length t → Follows low top n (eqb i 0) (getD t i 0) → SoFar low top (take (i + 1) t) (n * 10 + (getD t i 0 - 48))

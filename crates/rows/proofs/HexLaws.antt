@@ -45,9 +45,9 @@ module _ (most end : ℕ) (even : most % 2 ≡ 0) (mark : end < 48) where
     viable =
         ⊎-elim
         (λ (odd : 0 < length p % 2).
-            let room : length p + 1 ≤ most = omega (arith, s .short) in
-            let len : length (p ++ (48 ∷ [])) ≡ length p + 1 = simp length-append (omega arith) in
-            (48 ∷ end ∷ [], (p ++ (48 ∷ []), record { hex = (omega arith, omega arith, more-digits p 48 refl (s .digits)); written = sym (append-assoc p (48 ∷ []) (end ∷ [])) })))
+        let room : length p + 1 ≤ most = omega (arith, s .short) in
+        let len : length (p ++ (48 ∷ [])) ≡ length p + 1 = simp length-append (omega arith) in
+        (48 ∷ end ∷ [], (p ++ (48 ∷ []), record { hex = (omega arith, omega arith, more-digits p 48 refl (s .digits)); written = sym (append-assoc p (48 ∷ []) (end ∷ [])) })))
         (λ is-even. (end ∷ [], (p, record { hex = (omega arith, s .short, s .digits); written = refl })))
         (order 0 (length p % 2))
 
@@ -58,10 +58,10 @@ module _ (most end : ℕ) (even : most % 2 ≡ 0) (mark : end < 48) where
         ⊎-elim
         (λ k. inl (k .1, ap (λ l. length l % 2) (k .0) ∙ f .hex .0))
         (λ k.
-            let e = k .1 in
-            let long : length p < length h = omega (arith, simp length-append at (ap length e)) in
-            let at : getD h (length p) 0 ≡ b = ap (λ l. getD l (length p) 0) e ∙ getD-at p b (k .0) 0 (length p) refl in
-            inr (ap hexDigit (sym at) ∙ f .hex .2 (length p) long, omega (arith, f .hex .1)))
+        let e = k .1 in
+        let long : length p < length h = omega (arith, simp length-append at (ap length e)) in
+        let at : getD h (length p) 0 ≡ b = ap (λ l. getD l (length p) 0) e ∙ getD-at p b (k .0) 0 (length p) refl in
+        inr (ap hexDigit (sym at) ∙ f .hex .2 (length p) long, omega (arith, f .hex .1)))
         (cut p h b end (v .0) (sym (append-assoc p (b ∷ []) (v .0)) ∙ f .written))
 
     open-yet : (m : ℕ) → L (take m p) → ⊥
@@ -80,10 +80,10 @@ module _ (most end : ℕ) (even : most % 2 ≡ 0) (mark : end < 48) where
     stuck no-end no-digit =
         damaged L t i within (viable (take i t) s)
         (λ lt v.
-            ⊎-elim
-            (λ h. no-end lt (h .0) (ap (λ k. k % 2) (sym front) ∙ h .1))
-            (λ h. no-digit lt (h .0) (omega (arith, front, h .1)))
-            (goes (take i t) s (getD t i 0) (subst (Viable L) (take-more t i 0 lt) v)))
+        ⊎-elim
+        (λ h. no-end lt (h .0) (ap (λ k. k % 2) (sym front) ∙ h .1))
+        (λ h. no-digit lt (h .0) (omega (arith, front, h .1)))
+        (goes (take i t) s (getD t i 0) (subst (Viable L) (take-more t i 0 lt) v)))
         (open-yet (take i t) s)
 
     pub step : i < length t → hexDigit (getD t i 0) ≡ true → (i ≡ most → ⊥) → SoFar most (take (i + 1) t)

@@ -19,9 +19,9 @@ first-bad : (t : List ℕ) → (0 < length t → (k : Kind) → getD t 0 0 ≡ l
 first-bad t h =
     damaged (Lang KindField) t 0 (omega arith) (86 ∷ 9 ∷ [], (Value, refl))
     (λ lt v.
-        let e = v .1 .1 in
-        let f : getD t 0 0 ∷ v .0 ≡ letter (v .1 .0) ∷ 9 ∷ [] = ap (λ l. l ++ v .0) (sym (take-more t 0 0 lt)) ∙ e in
-        h lt (v .1 .0) (cc))
+    let e = v .1 .1 in
+    let f : getD t 0 0 ∷ v .0 ≡ letter (v .1 .0) ∷ 9 ∷ [] = ap (λ l. l ++ v .0) (sym (take-more t 0 0 lt)) ∙ e in
+    h lt (v .1 .0) (cc))
     (λ m l. omega (arith, length-take m (take 0 t), length-take 0 t, ap length (l .1)))
 
 -- the letter stands first, and no tab behind it
@@ -30,10 +30,10 @@ second-bad t k some first h =
     let one : take 1 t ≡ getD t 0 0 ∷ [] = take-more t 0 0 some in
     damaged (Lang KindField) t 1 (omega arith) (9 ∷ [], (k, ap (λ l. l ++ (9 ∷ [])) one ∙ ap (λ b. b ∷ 9 ∷ []) first))
     (λ lt v.
-        let e = v .1 .1 in
-        let two : take 2 t ≡ getD t 0 0 ∷ getD t 1 0 ∷ [] = take-more t 1 0 lt ∙ ap (λ l. l ++ (getD t 1 0 ∷ [])) one in
-        let f : getD t 0 0 ∷ getD t 1 0 ∷ v .0 ≡ letter (v .1 .0) ∷ 9 ∷ [] = ap (λ l. l ++ v .0) (sym two) ∙ e in
-        h lt (cc))
+    let e = v .1 .1 in
+    let two : take 2 t ≡ getD t 0 0 ∷ getD t 1 0 ∷ [] = take-more t 1 0 lt ∙ ap (λ l. l ++ (getD t 1 0 ∷ [])) one in
+    let f : getD t 0 0 ∷ getD t 1 0 ∷ v .0 ≡ letter (v .1 .0) ∷ 9 ∷ [] = ap (λ l. l ++ v .0) (sym two) ∙ e in
+    h lt (cc))
     (λ m l. omega (arith, length-take m (take 1 t), length-take 1 t, ap length (l .1)))
 
 module _ (t : List ℕ) (i : ℕ) (within : i ≤ length t) where

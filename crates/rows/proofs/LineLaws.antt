@@ -32,8 +32,8 @@ value-apart Tombstone = hex-apart 0 10 refl (omega arith)
 pub line-apart : Apart Line
 line-apart =
     then-apart NumberField (λ _. FromKind) number-apart (λ _. then-apart KindField FromCreated kind-apart (λ k.
-      then-apart TickField (λ _. FromExpires k) tick-apart (λ _. then-apart TickField (λ _. FromKey k) tick-apart (λ _.
-      then-apart KeyField (λ _. ValueField k) key-apart (λ _. value-apart k)))))
+    then-apart TickField (λ _. FromExpires k) tick-apart (λ _. then-apart TickField (λ _. FromKey k) tick-apart (λ _.
+    then-apart KeyField (λ _. ValueField k) key-apart (λ _. value-apart k)))))
 
 -- something can follow each field
 value-some : (k : Kind) → (w : List ℕ) × Lang (ValueField k) w

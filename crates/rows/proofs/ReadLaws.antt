@@ -90,9 +90,9 @@ few-ends t p q lt d =
     let long : length (take (q - p) (drop p t)) ≡ q - p = length-take-le (q - p) (drop p t) (omega (arith, d .within, length-drop p t)) in
     ⊎-elim
     (λ more.
-        let v = d .damage .longest .shared in
-        let some : 0 < length (take (q - p) (drop p t)) = omega arith in
-        let first = first-byte u (v .0) some (v .1) in
-        omega (arith, e, d .within, ends-less u some (λ ten. omega (arith, first, ten))))
+    let v = d .damage .longest .shared in
+    let some : 0 < length (take (q - p) (drop p t)) = omega arith in
+    let first = first-byte u (v .0) some (v .1) in
+    omega (arith, e, d .within, ends-less u some (λ ten. omega (arith, first, ten))))
     (λ same. omega (arith, e, ends-le u))
     (order p q)

@@ -49,7 +49,7 @@ seen-more f t s p n b q r g h le =
     let at = h .place in
     let k : (p - s) + (q - p) ≡ q - s = omega arith in
     let w : take (q - s) (drop s t) ≡ take (p - s) (drop s t) ++ line r =
-          ap (λ m. take m (drop s t)) (sym k) ∙ take-plus (p - s) (q - p) (drop s t) ∙ ap (λ l. take (p - s) (drop s t) ++ l) (ap (take (q - p)) (drop-on t s p (g .from)) ∙ line-is t p q r h le) in
+    ap (λ m. take m (drop s t)) (sym k) ∙ take-plus (p - s) (q - p) (drop s t) ∙ ap (λ l. take (p - s) (drop s t) ++ l) (ap (take (q - p)) (drop-on t s p (g .from)) ∙ line-is t p q r h le) in
     record {
       from = omega arith;
       within = le;

@@ -66,9 +66,10 @@ row-of-line r w l =
     let tail₁ : key .fore ++ key .back ≡ r .key ++ (9 ∷ (r .value ++ (10 ∷ []))) = (λ i. key .first .written i ++ key .second .written i) ∙ append-assoc (r .key) (9 ∷ []) _ in
     let tail₂ : expires .fore ++ expires .back ≡ tick (r .expires) ++ (9 ∷ _) = (λ i. expires .first .written i ++ (key .whole ∙ tail₁) i) ∙ append-assoc (tick (r .expires)) (9 ∷ []) _ in
     let tail₃ : created .fore ++ created .back ≡ tick (r .created) ++ (9 ∷ _) = (λ i. created .first .written i ++ (expires .whole ∙ tail₂) i) ∙ append-assoc (tick (r .created)) (9 ∷ []) _ in
-    let tail₄ : kind .fore ++ kind .back ≡ letter (r .kind) ∷ 9 ∷ _ = (λ i. kind .first i ++ (created .whole ∙ tail₃) i) in
-    (record { number = omega (arith, l .first .below); created = created .first .range; expires = expires .first .range; key = key .first .hex; value = key .second .hex },
-     l .whole ∙ (λ i. l .first .written i ++ (kind .whole ∙ tail₄) i) ∙ append-assoc (decimal (r .seq)) (9 ∷ []) _)
+    let tail₄ : kind .fore ++ kind .back ≡ letter (r .kind) ∷ 9 ∷ _ = (λ i. kind .first i ++ (created .whole ∙ tail₃) i) in (
+      record { number = omega (arith, l .first .below); created = created .first .range; expires = expires .first .range; key = key .first .hex; value = key .second .hex },
+      l .whole ∙ (λ i. l .first .written i ++ (kind .whole ∙ tail₄) i) ∙ append-assoc (decimal (r .seq)) (9 ∷ []) _,
+    )
 
 abbrev row-from : Values → Row
 row-from v = record { seq = v .0; kind = v .1 .0; created = v .1 .1 .0; expires = v .1 .1 .1 .0; key = v .1 .1 .1 .1 .0; value = v .1 .1 .1 .1 .1 }
@@ -99,12 +100,14 @@ text-damage t p q rows lt h d =
     let after = d .after in
     let s : p + (q - p) ≡ q = omega arith in
     let many = subst (Many Line (map values rows)) (sym (h .text)) (many-of rows (h .valid)) in
-    let b = in-many Line line-apart (map values rows) t p (q - p) lt many (d .damage) in
-    (subst (Longest WellFormed t) s (record {
-      within = b .0 .within;
-      shared = (b .0 .shared .0, from-many _ (b .0 .shared .1));
-      stops = λ less v. b .0 .stops less (v .0, to-many _ (v .1));
-    }), (λ w. b .1 (to-many t w)))
+    let b = in-many Line line-apart (map values rows) t p (q - p) lt many (d .damage) in (
+      subst (Longest WellFormed t) s (record {
+        within = b .0 .within;
+        shared = (b .0 .shared .0, from-many _ (b .0 .shared .1));
+        stops = λ less v. b .0 .stops less (v .0, to-many _ (v .1));
+      }),
+      (λ w. b .1 (to-many t w)),
+    )
 
 -- texts one behind the other
 every-append : (xs ys : List Row) → Every Valid xs → Every Valid ys → Every Valid (xs ++ ys)

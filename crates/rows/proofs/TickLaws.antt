@@ -121,7 +121,7 @@ module _ (t : List ℕ) (i : ℕ) (within : i ≤ length t) where
           after = omega arith;
           within = d .within;
           damage = subst (Damaged (Lang TickField) (drop i t)) s (minus-damage (drop i t) (p - (i + 1)) (omega (arith, length-drop i t)) (here t i ∙ is)
-            (λ f. ⊎-elim (λ lt. bar lt (sym second ∙ f)) (λ le. omega (arith, second, f, getD-past t (i + 1) 0 le)) (order (i + 1) (length t))) (subst R e (d .damage)));
+              (λ f. ⊎-elim (λ lt. bar lt (sym second ∙ f)) (λ le. omega (arith, second, f, getD-past t (i + 1) 0 le)) (order (i + 1) (length t))) (subst R e (d .damage)));
         }
 
     pub minus-none : i + 1 < length t → getD t (i + 1) 0 ≡ 9 → FieldAt TickField t i None (i + 2)

@@ -14,7 +14,11 @@ fn appended(n: u64, first: bool, digit: u8, low: u64, top: u64) -> Option<u64>
         return None;
     }
     let more = n.checked_mul(10)?.checked_add(u64::from(digit - b'0'))?;
-    if more < low || more > top { None } else { Some(more) }
+    if more < low || more > top {
+        None
+    } else {
+        Some(more)
+    }
 }
 
 /// Reads a number from `low` to `top` and the tab behind it from the front of `rest`.

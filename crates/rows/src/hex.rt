@@ -39,7 +39,13 @@ pub(crate) fn hex_at(text: &[u8], at: usize, most: usize, end: u8) -> Result<(Sp
     ensures { λ r. ⌜ SpanAt most end (now (text .entry)) at r ⌝ }
 {
     match hex(&text[at..], most, end) {
-        Ok(long) => Ok((Span { start: at, end: at + long }, at + long + 1)),
+        Ok(long) => Ok((
+            Span {
+                start: at,
+                end: at + long,
+            },
+            at + long + 1,
+        )),
         Err(long) => Err(at + long),
     }
 }

@@ -22,5 +22,15 @@ pub(crate) fn line_at(text: &[u8], at: usize) -> Result<(Found, usize), usize>
     let (expire_ts, at) = tick_at(text, at)?;
     let (key, at) = hex_at(text, at, 128, b'\t')?;
     let (value, at) = hex_at(text, at, most_digits(kind), b'\n')?;
-    Ok((Found { seq, kind, create_ts, expire_ts, key, value }, at))
+    Ok((
+        Found {
+            seq,
+            kind,
+            create_ts,
+            expire_ts,
+            key,
+            value,
+        },
+        at,
+    ))
 }

@@ -16,6 +16,9 @@ impl Totals {
         ensures rows { λ r. ⌜ r .rows ≡ rows ⌝ }
         ensures size { λ r. ⌜ r .size ≡ size ⌝ }
     {
-        Totals { rows, size: u128::from(size) }
+        Totals {
+            rows,
+            size: u128::from(size),
+        }
     }
 }

@@ -1,4 +1,5 @@
 //! Keys and values at their greatest lengths, and the sizes of rows.
+use row_text::read_text;
 use rows::BlockSize;
 use rows::Damage;
 use rows::Reader;
@@ -6,7 +7,6 @@ use rows::Totals;
 use rows::ValueDeletable;
 use rows::estimate_encoded_size_compacted;
 use rows::estimate_encoded_size_wal;
-use row_text::read_text;
 use std::alloc::AllocError;
 use std::alloc::Global;
 use std::test::*;
@@ -37,9 +37,21 @@ fn longest(rt: LibcRuntime) -> Result<(), Fail> {
 #[test]
 fn too_long(rt: LibcRuntime) -> Result<(), Fail> {
     let text = long_line(rt.alloc(), 65, 0)?;
-    check(matches!(read_text(text.as_slice()), Err(Damage { line: 1, place: 136 })))?;
+    check(matches!(
+        read_text(text.as_slice()),
+        Err(Damage {
+            line: 1,
+            place: 136
+        })
+    ))?;
     let text = long_line(rt.alloc(), 0, 1025)?;
-    check(matches!(read_text(text.as_slice()), Err(Damage { line: 1, place: 2057 })))
+    check(matches!(
+        read_text(text.as_slice()),
+        Err(Damage {
+            line: 1,
+            place: 2057
+        })
+    ))
 }
 
 #[test]
@@ -65,6 +77,12 @@ fn estimates() -> Result<(), Fail> {
         return Err(Fail::new("refused"));
     };
     check_eq(estimate_encoded_size_wal(Totals::new(1, 20), block), 130)?;
-    check_eq(estimate_encoded_size_compacted(Totals::new(1, 20), block), 192)?;
-    check_eq(estimate_encoded_size_compacted(Totals::new(0, 20), block), 0)
+    check_eq(
+        estimate_encoded_size_compacted(Totals::new(1, 20), block),
+        192,
+    )?;
+    check_eq(
+        estimate_encoded_size_compacted(Totals::new(0, 20), block),
+        0,
+    )
 }

@@ -7,7 +7,8 @@ use std::test::*;
 
 #[test]
 fn again(rt: LibcRuntime) -> Result<(), Fail> {
-    let text = b"0\tT\t-9223372036854775808\t9223372036854775807\t\t\n18446744073709551615\tM\t-\t10\t00ff\t1234567890\n";
+    let text =
+        b"0\tT\t-9223372036854775808\t9223372036854775807\t\t\n18446744073709551615\tM\t-\t10\t00ff\t1234567890\n";
     let mut out = Vec::from_slice(rt.alloc(), b"before ")?;
     check(rewrite(text, &mut out).is_ok())?;
     check(out.len() == 7 + text.len())?;
@@ -18,7 +19,10 @@ fn again(rt: LibcRuntime) -> Result<(), Fail> {
 fn damage_writes_nothing(rt: LibcRuntime) -> Result<(), Fail> {
     let mut out = Vec::from_slice(rt.alloc(), b"before")?;
     let done = rewrite(b"1\tV\t-\t-\t\t\n2\tV\t-\t-\tzz\t\n", &mut out);
-    check(matches!(done, Err(RewriteFault::Damaged(Damage { line: 2, place: 18 }))))?;
+    check(matches!(
+        done,
+        Err(RewriteFault::Damaged(Damage { line: 2, place: 18 }))
+    ))?;
     check(out.as_slice() == b"before")
 }
 

@@ -1,11 +1,11 @@
 //! Reads a script of calls, performs them, and prints an account of them.
 use console::account::AccountDisplay;
 use console::answer::AnswerDisplay;
-use console::reason::ScriptError;
-use console::reason::ScriptErrorDisplay;
-use console::script::Script;
 use console::session::Session;
 use console::session::Stop;
+use script::reason::ScriptError;
+use script::reason::ScriptErrorDisplay;
+use script::script::Script;
 use std::alloc::AllocError;
 use std::env;
 use std::fmt;

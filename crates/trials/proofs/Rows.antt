@@ -32,10 +32,13 @@ hundred : decimal 100 ≡ 49 ∷ 48 ∷ 48 ∷ []
 hundred = decimal-step 100 (omega arith) (omega arith) ∙ ap (λ l. l ++ (48 ∷ [])) (decimal-step 10 (omega arith) (omega arith) ∙ ap (λ l. l ++ (48 ∷ [])) (decimal-digit 1 (omega arith)))
 
 pub sizes : Rows-and-sizes
-sizes =
-    (record { number = omega arith; created = refl; expires = refl; key = (refl, omega arith, λ i lt. four 54 49 51 49 i refl refl refl refl lt); value = (refl, omega arith, λ i lt. four 48 48 102 102 i refl refl refl refl lt) },
-     (λ j. decimal-digit 7 (omega arith) j ++ (9 ∷ 86 ∷ 9 ∷ (hundred j ++ (9 ∷ 45 ∷ 9 ∷ 54 ∷ 49 ∷ 51 ∷ 49 ∷ 9 ∷ 48 ∷ 48 ∷ 102 ∷ 102 ∷ 10 ∷ [])))),
-     refl, refl, refl)
+sizes = (
+  record { number = omega arith; created = refl; expires = refl; key = (refl, omega arith, λ i lt. four 54 49 51 49 i refl refl refl refl lt); value = (refl, omega arith, λ i lt. four 48 48 102 102 i refl refl refl refl lt) },
+  (λ j. decimal-digit 7 (omega arith) j ++ (9 ∷ 86 ∷ 9 ∷ (hundred j ++ (9 ∷ 45 ∷ 9 ∷ 54 ∷ 49 ∷ 51 ∷ 49 ∷ 9 ∷ 48 ∷ 48 ∷ 102 ∷ 102 ∷ 10 ∷ [])))),
+  refl,
+  refl,
+  refl,
+)
 
 number : FieldAt NumberField text-8 0 8 2
 number = record { after = omega arith; within = omega arith; field = record { above = omega arith; below = omega arith; written = ap (λ l. l ++ (9 ∷ [])) (sym (decimal-digit 8 (omega arith))) } }

@@ -44,7 +44,10 @@ impl<'a> Reader<'a> {
     {
         let text = self.text;
         let start = self.place;
-        let guard = Ahead { place: &mut self.place, start };
+        let guard = Ahead {
+            place: &mut self.place,
+            start,
+        };
         let mut rows = 0;
         let mut bytes = 0;
         while *guard.place < text.len() {

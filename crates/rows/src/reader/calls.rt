@@ -48,8 +48,19 @@ impl<'a> Reader<'a> {
     {
         let key = Span { start: 0, end: 0 };
         let value = Span { start: 0, end: 0 };
-        let found = Found { seq: 0, kind: Kind::Tombstone, create_ts: None, expire_ts: None, key, value };
-        Reader { text, place: 0, found }
+        let found = Found {
+            seq: 0,
+            kind: Kind::Tombstone,
+            create_ts: None,
+            expire_ts: None,
+            key,
+            value,
+        };
+        Reader {
+            text,
+            place: 0,
+            found,
+        }
     }
 
     /// Goes on to the next row. False at the end of the text; damage leaves the reader where it stands.
@@ -81,6 +92,12 @@ impl<'a> Reader<'a> {
         let key = &text[start..end];
         let (start, end) = (self.found.value.start, self.found.value.end);
         let value = value_of(self.found.kind, &text[start..end]);
-        RowEntry { seq: self.found.seq, create_ts: self.found.create_ts, expire_ts: self.found.expire_ts, key, value }
+        RowEntry {
+            seq: self.found.seq,
+            create_ts: self.found.create_ts,
+            expire_ts: self.found.expire_ts,
+            key,
+            value,
+        }
     }
 }

@@ -1,5 +1,5 @@
 use lib.ListN.{length}
-use Rattle.console.specs.Scripts.{left}
+use Rattle.script.specs.Scripts.{left}
 use Rattle.station.proofs.perform.Given as given
 
 abbrev pub μ-loop-call : given.MeasureT-loop-call

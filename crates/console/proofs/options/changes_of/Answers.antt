@@ -7,7 +7,7 @@ use Rattle.std.specs.declared.result.Result.the-variants.{Err}
 use Rattle.std.specs.Options.{mapped}
 use Rattle.std.proofs.shelf.Results.{err-from-errBy}
 use Rattle.console.proofs.Setting.{set-fault, set-more}
-use Rattle.console.proofs.Wording.{extent, extent-less}
+use Rattle.script.proofs.Wording.{extent, extent-less}
 use Rattle.console.proofs.options.changes_of.Needs as need
 
 pub returns-in-Break-setting-of : need.returns-in-Break-setting-of

@@ -2,10 +2,10 @@ use denote.Ref.{now}
 use Rattle.std.specs.declared.result.Result.{Result}
 use Rattle.std.specs.Options.{mapped}
 use Rattle.console.specs.declared.options.Changes.{Changes}
-use Rattle.console.specs.declared.reason.Reason.{Reason}
+use Rattle.script.specs.declared.reason.Reason.{Reason}
 use Rattle.console.specs.Settings.{Changed, none}
-use Rattle.console.specs.Words.{others}
-use Rattle.console.proofs.Wording.{extent}
+use Rattle.script.specs.Words.{others}
+use Rattle.script.proofs.Wording.{extent}
 use Rattle.console.proofs.options.changes_of.Given as given
 
 abbrev pub Inv-loop-rest : given.InvT-loop-rest

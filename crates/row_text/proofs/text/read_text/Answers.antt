@@ -25,11 +25,12 @@ pub loop-rows-again : need.loop-rows-again
 loop-rows-again c =
     let h = stepped c in
     let r = row-under (c .advance .last .self) in
-    let e : size (row-under (c .advance .last .self)) ≡ c .estimated-size .result = sym (c .estimated-size .ensures ∙ ap size (c .row .ensures)) in
-    (ap (λ x. x .now) (c .advance .ensures .text) ∙ c .loop-rows .inv .0,
-     subst (λ n. Seen size (c .args .text .now) 0 (c .advance .last .self .place) (c .loop-rows .rows + 1) (c .loop-rows .size + n)) e (h .0),
-     omega (arith, h .1, line-bytes r, c .loop-rows .inv .2),
-     omega (arith, h .1, e, size-le r, c .loop-rows .inv .3))
+    let e : size (row-under (c .advance .last .self)) ≡ c .estimated-size .result = sym (c .estimated-size .ensures ∙ ap size (c .row .ensures)) in (
+      ap (λ x. x .now) (c .advance .ensures .text) ∙ c .loop-rows .inv .0,
+      subst (λ n. Seen size (c .args .text .now) 0 (c .advance .last .self .place) (c .loop-rows .rows + 1) (c .loop-rows .size + n)) e (h .0),
+      omega (arith, h .1, line-bytes r, c .loop-rows .inv .2),
+      omega (arith, h .1, e, size-le r, c .loop-rows .inv .3),
+    )
 
 pub returns : need.returns
 returns c =

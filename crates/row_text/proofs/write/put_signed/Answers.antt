@@ -27,18 +27,18 @@ returns c =
     let told = c .put-decimal .ensures in
     let short = told .short in
     elim (c .if-z-lt0 .came) [
-      then-z-lt0 w ↦
-        (let e : signed (c .args .z) ≡ 45 ∷ decimal (natAbs (c .args .z)) = signed-minus (c .args .z) (ap (λ z. ltZ z (pos 0)) (sym (kept c)) ∙ w .if-z-lt0 .taken) in
-        let f : 45 ∷ decimal (c .unsigned-abs .result) ≡ signed (c .args .z) = ap (λ l. 45 ∷ l) (digits c) ∙ sym e in
-        record {
-          appends = same _ _ _ _ f (both _ _ _ _ _ (w .put .ensures) (subst (λ v. Appends v (decimal (c .unsigned-abs .result)) (c .put-decimal .last .out)) (w .out-is) (told .appends)));
-          short = omega (arith, ap length f);
-        })
-    | else-z-lt0 w ↦
-        (let e : signed (c .args .z) ≡ decimal (natAbs (c .args .z)) = signed-plain (c .args .z) (ap (λ z. ltZ z (pos 0)) (sym (kept c)) ∙ w .if-z-lt0 .left) in
-        let f : decimal (c .unsigned-abs .result) ≡ signed (c .args .z) = digits c ∙ sym e in
-        record {
-          appends = same _ _ _ _ f (subst (λ v. Appends v (decimal (c .unsigned-abs .result)) (c .put-decimal .last .out)) (w .out-is) (told .appends));
-          short = omega (arith, ap length f);
-        })
+      | then-z-lt0 w ↦
+          (let e : signed (c .args .z) ≡ 45 ∷ decimal (natAbs (c .args .z)) = signed-minus (c .args .z) (ap (λ z. ltZ z (pos 0)) (sym (kept c)) ∙ w .if-z-lt0 .taken) in
+          let f : 45 ∷ decimal (c .unsigned-abs .result) ≡ signed (c .args .z) = ap (λ l. 45 ∷ l) (digits c) ∙ sym e in
+          record {
+            appends = same _ _ _ _ f (both _ _ _ _ _ (w .put .ensures) (subst (λ v. Appends v (decimal (c .unsigned-abs .result)) (c .put-decimal .last .out)) (w .out-is) (told .appends)));
+            short = omega (arith, ap length f);
+          })
+      | else-z-lt0 w ↦
+          (let e : signed (c .args .z) ≡ decimal (natAbs (c .args .z)) = signed-plain (c .args .z) (ap (λ z. ltZ z (pos 0)) (sym (kept c)) ∙ w .if-z-lt0 .left) in
+          let f : decimal (c .unsigned-abs .result) ≡ signed (c .args .z) = digits c ∙ sym e in
+          record {
+            appends = same _ _ _ _ f (subst (λ v. Appends v (decimal (c .unsigned-abs .result)) (c .put-decimal .last .out)) (w .out-is) (told .appends));
+            short = omega (arith, ap length f);
+          })
     ]

@@ -17,10 +17,11 @@ loop-guard-again c =
     let f = c .in-Ok .ensures tt in
     let t = c .args .self .now .text .now in
     let h = handed t (c .loop-guard .guard .place .now) (c .in-Ok .end) (found-row t (c .in-Ok .found)) (f .0) in
-    let w : weight (found-row t (c .in-Ok .found)) ≡ c .weight-bytes .result = cut-length t (c .in-Ok .found) (f .1) (f .2) ∙ sym (c .weight-bytes .ensures) in
-    (subst (λ n. Seen weight t (c .args .self .now .place) (c .in-Ok .end) (c .loop-guard .rows + 1) (c .loop-guard .bytes + n)) w
-      (seen-more weight t (c .args .self .now .place) (c .loop-guard .guard .place .now) (c .loop-guard .rows) (c .loop-guard .bytes) (c .in-Ok .end) (found-row t (c .in-Ok .found)) (c .loop-guard .inv .0) h (f .0 .within)),
-     omega (arith, w, weight-le (found-row t (c .in-Ok .found)), h .place, c .loop-guard .inv .1))
+    let w : weight (found-row t (c .in-Ok .found)) ≡ c .weight-bytes .result = cut-length t (c .in-Ok .found) (f .1) (f .2) ∙ sym (c .weight-bytes .ensures) in (
+      subst (λ n. Seen weight t (c .args .self .now .place) (c .in-Ok .end) (c .loop-guard .rows + 1) (c .loop-guard .bytes + n)) w
+          (seen-more weight t (c .args .self .now .place) (c .loop-guard .guard .place .now) (c .loop-guard .rows) (c .loop-guard .bytes) (c .in-Ok .end) (found-row t (c .in-Ok .found)) (c .loop-guard .inv .0) h (f .0 .within)),
+      omega (arith, w, weight-le (found-row t (c .in-Ok .found)), h .place, c .loop-guard .inv .1),
+    )
 
 pub damage-at-requires : need.damage-at-requires
 damage-at-requires c κs =

@@ -1,5 +1,0 @@
-use Rattle.std.proofs.shelf.Equals.{strip-prefix-is}
-use Rattle.console.proofs.parts.after.Needs as need
-
-pub returns : need.returns
-returns c = strip-prefix-is _ _ _ (c .strip-prefix .ensures .cases)

@@ -1,6 +1,0 @@
-use native.Mathlib.Omega.{arith}
-use Rattle.console.proofs.Parting.{parts-at}
-use Rattle.console.proofs.parts.part.Needs as need
-
-pub returns-then-b-mark : need.returns-then-b-mark
-returns-then-b-mark c = parts-at (c .args .mark) (c .args .text .now) (c .loop-i .i) (omega arith) (c .if-b-mark .taken) (c .loop-i .inv)

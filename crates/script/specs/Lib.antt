@@ -1,0 +1,9 @@
+pub mod Calls
+pub mod Hexadecimal
+pub mod Lines
+pub mod Numerals
+pub mod Parts
+pub mod Reasons
+pub mod Scripts
+pub mod Texts
+pub mod Words
