@@ -1,2 +1,3 @@
 pub mod Asking
+pub mod Marking
 pub mod Setting

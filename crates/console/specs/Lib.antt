@@ -1,4 +1,5 @@
-pub mod Answers
-pub mod Commands
-pub mod Sessions
 pub mod Settings
+pub mod Arguments
+pub mod Commands
+pub mod Setups
+pub mod Sessions

@@ -14,19 +14,20 @@ use Rattle.console.specs.declared.options.Options.{Options}
 use Rattle.console.specs.declared.options.Setting.{Setting}
 use Rattle.console.specs.declared.options.Setting.the-variants.{BlockSize}
 use Rattle.script.specs.declared.reason.Reason.{Reason}
-use Rattle.script.specs.declared.reason.Reason.the-variants.{UnknownCommand, WrongWords, NoText, TextNotEnded, NotHex, UnknownOption, Number}
+use Rattle.script.specs.declared.reason.Reason.the-variants.{UnknownOption, Number}
+use Rattle.script.specs.declared.number.NumberFault.{NumberFault}
 use Rattle.script.specs.Numerals.{Reads}
+
+-- the number that a word is
+abbrev pub Number-is : List ℕ → Result ℕ Reason → Type 0
+Number-is w (Ok n) = Reads w (Ok n)
+Number-is w (Err e) = (f : NumberFault) × (e ≡ Number f) × Reads w (Err f)
 
 -- what a word sets: an option's name, `=` and its number
 abbrev pub Sets : List ℕ → Result Setting Reason → Type 0
-Sets word (Ok (BlockSize n)) = (v : List ℕ) × (word ≡ codes "block_size=" ++ v) × Reads v (Ok n)
-Sets word (Err UnknownOption) = (v : List ℕ) → word ≡ codes "block_size=" ++ v → ⊥
-Sets word (Err (Number f)) = (v : List ℕ) × (word ≡ codes "block_size=" ++ v) × Reads v (Err f)
-Sets word (Err UnknownCommand) = ⊥
-Sets word (Err WrongWords) = ⊥
-Sets word (Err NoText) = ⊥
-Sets word (Err TextNotEnded) = ⊥
-Sets word (Err NotHex) = ⊥
+Sets word (Ok (BlockSize n)) = (v : List ℕ) × (word ≡ codes "block_size=" ++ v) × Number-is v (Ok n)
+Sets word (Err e) = (((v : List ℕ) → word ≡ codes "block_size=" ++ v → ⊥) × (e ≡ UnknownOption))
+    ⊎ ((v : List ℕ) × (word ≡ codes "block_size=" ++ v) × Number-is v (Err e))
 
 -- no option is changed
 abbrev pub none : Changes

@@ -3,7 +3,7 @@ ghost use mathlib.Core.Path.{_≡_};
 ghost use Rattle.std.specs.Options.{mapped};
 ghost use Rattle.console.specs.Settings.{Changed, Sets, changed, none, with};
 ghost use Rattle.script.specs.Words.{others};
-use script::number::number;
+use crate::arguments::as_number;
 use script::parts::after;
 use script::parts::part;
 use script::reason::Reason;
@@ -33,10 +33,7 @@ fn setting_of(word: &[u8]) -> Result<Setting, Reason>
     let Some(value) = after(word, b"block_size=") else {
         return Err(Reason::UnknownOption);
     };
-    match number(value) {
-        Ok(n) => Ok(Setting::BlockSize(n)),
-        Err(fault) => Err(Reason::Number(fault)),
-    }
+    Ok(Setting::BlockSize(as_number(value)?))
 }
 
 impl Changes {

@@ -1,24 +1,39 @@
 //! Performs the calls of a script.
+ghost use mathlib.Core.List.{[]};
 ghost use mathlib.Core.Path.{_≡_};
-ghost use Rattle.console.specs.Sessions.{Performs, Tests};
-use crate::account::Account;
-use crate::answer::Answer;
+ghost use Rattle.std.specs.Vec.{made};
+ghost use Rattle.console.specs.Sessions.{Begins, Does, Performs, closing};
 use crate::command::Command;
 use crate::command::command_of;
 use crate::options::Options;
+use crate::setup::fresh;
+use answers::account::Account;
+use answers::answer::Answer;
 use script::call::Call;
-use script::call::Text;
-use script::hex::TextFault;
-use script::hex::decode;
 use script::reason::Reason;
+use std::alloc::AllocError;
 use std::alloc::Global;
+use store::FaultScript;
+use store::Mark;
+use store::MemoryStore;
+use store::MemoryStoreStore;
+
+mod calls;
+mod setting;
 
 /// What the calls of a script work on.
 #[derive(Drop)]
 pub struct Session {
+    heap: Global,
     options: Options,
     account: Account,
     buffer: Vec<u8>,
+    page: [u8; 16384],
+    begun: bool,
+    places: usize,
+    bytes: usize,
+    marks: Vec<Mark>,
+    store: FaultScript<MemoryStore>,
 }
 
 /// Why a call was not performed.
@@ -28,43 +43,47 @@ pub enum Stop {
     NoMemory,
 }
 
+pub impl From<AllocError> for Stop as StopFromAlloc {
+    fn from(_e: AllocError) -> Stop {
+        Stop::NoMemory
+    }
+}
+
 impl Session {
     /// The session before the first call.
-    pub fn new(heap: Global) -> Session
-        ensures options { λ r. ⌜ r .options ≡ record { «block_size» = 4096 } ⌝ }
-        ensures account { λ r. ⌜ r .account ≡ record { texts = 0; rows = 0; refused = 0 } ⌝ }
+    pub fn new(heap: Global) -> Result<Session, AllocError>
+        ensures { λ r. ⌜ made r Begins ⌝ }
     {
-        Session {
+        let store = fresh(heap, 1024, 16_777_216, &[])?;
+        Ok(Session {
+            heap,
             options: Options::new(),
             account: Account::new(),
             buffer: Vec::new(heap),
-        }
+            page: [0; 16384],
+            begun: false,
+            places: 1024,
+            bytes: 16_777_216,
+            marks: Vec::new(heap),
+            store,
+        })
     }
 
-    /// The account of the calls so far.
+    /// The account of the calls so far, and of what the store holds.
     pub fn account(&self) -> Account
-        ensures { λ r. ⌜ r ≡ now (self .entry) .account ⌝ }
+        ensures { λ r. ⌜ r ≡ closing (now (self .entry)) ⌝ }
     {
-        let Session { account, .. } = self;
-        *account
+        let (places, bytes) = self.store.inner().room();
+        let files = self.places.saturating_sub(places);
+        let taken = self.bytes.saturating_sub(bytes);
+        self.account.holding(files, taken)
     }
 
-    /// Checks a text and counts the answer.
-    fn check(&mut self, text: Text<'_>) -> Result<Answer, Stop>
-        ensures { λ r. ⌜ Tests (now (self .entry)) (text .entry) r (now (self .exit)) ⌝ }
+    /// The buffer of `read`: the last file read stands at its beginning.
+    pub fn page(&self) -> &[u8]
+        ensures { λ r. ⌜ now r ≡ now (self .entry) .page ⌝ }
     {
-        let size = self.options.block_size;
-        let found = match text {
-            Text::Lines(bytes) => row_text::check(bytes, size),
-            Text::Hex(digits) => match decode(digits, &mut self.buffer) {
-                Ok(()) => row_text::check(self.buffer.as_slice(), size),
-                Err(TextFault::NotHex) => return Err(Stop::Script(Reason::NotHex)),
-                Err(TextFault::NoMemory) => return Err(Stop::NoMemory),
-            },
-        };
-        let answer = Answer::Check(found);
-        self.account.note(answer);
-        Ok(answer)
+        &self.page
     }
 
     /// Performs a call. Answers what is to be printed, if anything is.
@@ -72,15 +91,26 @@ impl Session {
         ensures { λ r. ⌜ Performs (now (self .entry)) (call .entry) r (now (self .exit)) ⌝ }
     {
         match command_of(call) {
-            Ok(Command::Check(text)) => match self.check(text) {
-                Ok(answer) => Ok(Some(answer)),
-                Err(stop) => Err(stop),
-            },
-            Ok(Command::Options(changes)) => {
+            Ok(command) => self.obey(command),
+            Err(reason) => Err(Stop::Script(reason)),
+        }
+    }
+
+    /// Performs a command.
+    fn obey(&mut self, command: Command<'_>) -> Result<Option<Answer>, Stop>
+        ensures { λ r. ⌜ Does (now (self .entry)) (command .entry) r (now (self .exit)) ⌝ }
+    {
+        match command {
+            Command::Options(changes) => {
                 self.options = self.options.changed(changes);
                 Ok(None)
             }
-            Err(reason) => Err(Stop::Script(reason)),
+            Command::Store(places, bytes) => self.set_store(places, bytes),
+            Command::Script(words) => self.set_marks(words),
+            Command::Check(text) => self.check(text),
+            Command::Put(id, text) => self.put(id, text),
+            Command::Head(id) => Ok(Some(self.head(id))),
+            Command::Read(id) => Ok(Some(self.read(id))),
         }
     }
 }

@@ -14,6 +14,9 @@ pub enum Reason {
     TextNotEnded,
     NotHex,
     UnknownOption,
+    UnknownMark,
+    TooLate,
+    ExtraText,
     Number(NumberFault),
 }
 
@@ -36,6 +39,9 @@ impl Reason {
             Reason::TextNotEnded => "text not ended",
             Reason::NotHex => "not hexadecimal",
             Reason::UnknownOption => "unknown option",
+            Reason::UnknownMark => "unknown mark",
+            Reason::TooLate => "too late, after the first call",
+            Reason::ExtraText => "a text where none belongs",
             Reason::Number(fault) => fault.words(),
         }
     }

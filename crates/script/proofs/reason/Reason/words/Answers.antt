@@ -13,3 +13,12 @@ returns-in-NotHex c = sym (ap reason (c .in-NotHex .is))
 
 pub returns-in-UnknownOption : need.returns-in-UnknownOption
 returns-in-UnknownOption c = sym (ap reason (c .in-UnknownOption .is))
+
+pub returns-in-UnknownMark : need.returns-in-UnknownMark
+returns-in-UnknownMark c = sym (ap reason (c .in-UnknownMark .is))
+
+pub returns-in-TooLate : need.returns-in-TooLate
+returns-in-TooLate c = sym (ap reason (c .in-TooLate .is))
+
+pub returns-in-ExtraText : need.returns-in-ExtraText
+returns-in-ExtraText c = sym (ap reason (c .in-ExtraText .is))

@@ -1,0 +1,4 @@
+pub mod Searching
+pub mod Inserting
+pub mod Growing
+pub mod Outcomes
