@@ -11,7 +11,7 @@ ghost use Rattle.store.specs.Index.{extent-of, Ascending, Present, Absent};
 use super::extent::Extent;
 
 /// The place of an id, or the place where it would stand.
-pub fn locate(index: &[Extent], id: u64) -> Result<usize, usize>
+pub(crate) fn locate(index: &[Extent], id: u64) -> Result<usize, usize>
     requires { ⌜ Ascending (now index) ⌝ }
     ensures { λ r. ⌜ Cases r (λ n. Present (now (index .entry)) id n) (λ n. Absent (now (index .entry)) id n) ⌝ }
 {
@@ -33,7 +33,7 @@ pub fn locate(index: &[Extent], id: u64) -> Result<usize, usize>
 }
 
 /// The extent of an id.
-pub fn find(index: &[Extent], id: u64) -> Option<Extent>
+pub(crate) fn find(index: &[Extent], id: u64) -> Option<Extent>
     requires { ⌜ Ascending (now index) ⌝ }
     ensures { λ r. ⌜ r ≡ extent-of (now (index .entry)) id ⌝ }
 {
@@ -44,7 +44,7 @@ pub fn find(index: &[Extent], id: u64) -> Option<Extent>
 }
 
 /// Inserts an extent at its place, for which memory is reserved.
-pub fn insert(index: &mut Vec<Extent>, n: usize, extent: Extent)
+pub(crate) fn insert(index: &mut Vec<Extent>, n: usize, extent: Extent)
     requires ordered { ⌜ Ascending (vec-items (now index)) ⌝ }
     requires absent { ⌜ Absent (vec-items (now index)) (extent .id) n ⌝ }
     requires reserved { ⌜ vec-len (now index) < vec-cap (now index) ⌝ }
