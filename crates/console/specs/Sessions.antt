@@ -33,6 +33,7 @@ use Rattle.answers.specs.declared.answer.Answer.{Answer}
 use Rattle.answers.specs.declared.answer.Answer.the-variants as answer
 use Rattle.console.specs.declared.command.Command.{Command}
 use Rattle.console.specs.declared.command.Command.the-variants as command
+use Rattle.console.specs.declared.options.Changes.{Changes}
 use Rattle.console.specs.declared.session.Session.{Session}
 use Rattle.console.specs.declared.session.Stop.{Stop}
 use Rattle.console.specs.declared.session.Stop.the-variants.{Script, NoMemory}
@@ -70,11 +71,24 @@ pub record Same (s t : Session) : Type 0 where
   pub marks : vec-items (t .marks) ≡ vec-items (s .marks)
   pub store : t .store ≡ s .store
 
--- after a call with this answer
+-- after a call with this answer: what sets the store up is as it was
 pub record Answered (s : Session) (a : Answer) (t : Session) : Type 0 where
   pub options : t .options ≡ s .options
   pub account : t .account ≡ noted (s .account) a
   pub begun : t .begun ≡ true
+  pub places : t .places ≡ s .places
+  pub bytes : t .bytes ≡ s .bytes
+  pub marks : vec-items (t .marks) ≡ vec-items (s .marks)
+
+-- `options`: nothing but the options changes
+pub record Altered (s : Session) (c : Changes) (t : Session) : Type 0 where
+  pub options : t .options ≡ changed (s .options) c
+  pub account : t .account ≡ s .account
+  pub begun : t .begun ≡ s .begun
+  pub places : t .places ≡ s .places
+  pub bytes : t .bytes ≡ s .bytes
+  pub marks : vec-items (t .marks) ≡ vec-items (s .marks)
+  pub store : t .store ≡ s .store
 
 -- why the bytes of a text cannot be had
 abbrev pub stopped : TextFault → Stop
@@ -165,7 +179,7 @@ SetsMarks s ws (Err NoMemory) t = (s .begun ≡ false) × Same s t
 
 -- what is done for a command
 abbrev pub Does : Session → Command → Result (Option Answer) Stop → Session → Type 0
-Does s (command.Options c) r t = (r ≡ Ok None) × (t .options ≡ changed (s .options) c) × (t .account ≡ s .account) × (t .store ≡ s .store)
+Does s (command.Options c) r t = (r ≡ Ok None) × Altered s c t
 Does s (command.Store p b) r t = SetsStore s p b r t
 Does s (command.Script line) r t = SetsMarks s (others (mapped now line)) r t
 Does s (command.Check text) r t = Tests s text r t
