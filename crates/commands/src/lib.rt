@@ -1,4 +1,5 @@
 //! What the lines of a script ask for.
+#![tactic(auto)]
 
 pub mod arguments;
 pub mod command;

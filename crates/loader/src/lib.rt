@@ -1,4 +1,6 @@
 //! A text of rows put into a table, and a table written out as a text of rows.
+#![tactic(auto)]
+
 mod fault;
 mod listing;
 mod loading;

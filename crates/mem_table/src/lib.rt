@@ -1,4 +1,6 @@
 //! Tables of rows: what their calls promise, and a row with storage of its own.
+#![tactic(auto)]
+
 mod buffer;
 mod calls;
 mod fault;

@@ -1,4 +1,5 @@
 //! Tests of the exact bounds of an opening and its window.
+#![tactic(auto)]
 
 #[cfg(test)]
 mod fences;

@@ -1,4 +1,5 @@
 //! Calls on a script over a script over a store in memory, each printed with its answer.
+#![tactic(auto)]
 
 ghost use Rattle.std.specs.Prelude.{◌≡◌, [], ◌∷◌, IfOk};
 ghost use Rattle.store.specs.Meaning.{empty, steady_store};

@@ -1,4 +1,6 @@
 //! Runs scripts of which each has a store of its own, one after the other, and prints their accounts.
+#![tactic(auto)]
+
 use console::run::{Failure, run};
 use std::fs;
 use std::io::BufWriter;

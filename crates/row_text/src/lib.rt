@@ -1,4 +1,6 @@
 //! Whole texts of rows: counted, sized, and written.
+#![tactic(auto)]
+
 mod again;
 mod fault;
 mod text;

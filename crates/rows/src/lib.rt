@@ -1,4 +1,6 @@
 //! Rows of the journal: their lines read, and their sizes.
+#![tactic(auto)]
+
 mod block;
 mod decimal;
 mod entry;

@@ -1,4 +1,5 @@
 //! Edges of the lines of rows, run.
+#![tactic(auto)]
 
 #[cfg(test)]
 mod edges;

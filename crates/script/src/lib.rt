@@ -1,4 +1,5 @@
 //! Scripts: their lines, words, numbers and texts.
+#![tactic(auto)]
 
 pub mod call;
 pub mod hex;

@@ -1,4 +1,5 @@
 //! What the lines of a script set up: the store, the record, and tables.
+#![tactic(auto)]
 
 pub mod loads;
 pub mod marks;

@@ -1,4 +1,6 @@
 //! Reads a script of calls, performs them, and prints an account of them.
+#![tactic(auto)]
+
 use console::run::{Failure, run};
 use std::io::{BufWriter, Read};
 use std::{env, fs};

@@ -1,4 +1,6 @@
 //! The stations of a script: their names, and what each has opened.
+#![tactic(auto)]
+
 mod name;
 mod station;
 

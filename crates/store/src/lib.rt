@@ -1,4 +1,5 @@
 //! A store of numbered files, each written once: what its calls promise, a store in memory, and a script of faults over any store.
+#![tactic(auto)]
 
 mod calls;
 mod extent;

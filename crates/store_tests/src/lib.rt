@@ -1,4 +1,5 @@
 //! Tests of the store's exact bounds.
+#![tactic(auto)]
 
 #[cfg(test)]
 mod bounds;

@@ -1,4 +1,6 @@
 //! How long the two tables take at 65,536 rows.
+#![tactic(auto)]
+
 use mem_table::{RowBuf, Table};
 use rows::Reader;
 use std::time::Instant;

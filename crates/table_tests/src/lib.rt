@@ -1,4 +1,5 @@
 //! The edges of tables, run on a sorted table and an arrival log.
+#![tactic(auto)]
 
 #[cfg(test)]
 mod lines;

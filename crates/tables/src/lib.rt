@@ -1,4 +1,6 @@
 //! Tables of rows in memory that is reserved when they are made: a sorted table and an arrival log.
+#![tactic(auto)]
+
 mod arena;
 mod arrival;
 mod rank;

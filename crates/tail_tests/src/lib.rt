@@ -1,4 +1,5 @@
 //! Tests of how often a probe really asks: scripts whose marks are exactly enough, and one too few.
+#![tactic(auto)]
 
 #[cfg(test)]
 mod bounds;

@@ -1,4 +1,6 @@
 //! Worked examples, proved over the definitions that the contracts cite.
+#![tactic(auto)]
+
 ghost use Rattle.trials.specs.Rows.{RowsAndSizes, DamagedLine};
 ghost use Rattle.trials.specs.Tails.{TailsAndCalls};
 

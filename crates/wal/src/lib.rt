@@ -1,4 +1,5 @@
 //! The journal above its store: its faults, and the probe for the last file.
+#![tactic(auto)]
 
 mod fault;
 mod laws;

@@ -1,4 +1,5 @@
 //! The opening of a journal: its fence, and the window of the files that are read next.
+#![tactic(auto)]
 
 mod fence;
 mod grant;

@@ -1,4 +1,5 @@
 //! The replay of a journal: files read back into tables.
+#![tactic(auto)]
 
 mod fault;
 mod fetch;
