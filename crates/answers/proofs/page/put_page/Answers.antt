@@ -12,7 +12,7 @@ next before mid now all text fresh i lt m e inv =
     ∙ ap (λ l. before ++ l) (sym (at_drop_more (paged fresh) text i 0 lt)) ∙ inv
 
 pub loop-b-preserved : goal.loop-b-preserved
-loop-b-preserved c = next _ _ _ _ c.args.text.now c.loop-b.fresh c.loop-b.b-index (omega arith) c.in-ok-put-margin.ensures c.in-ok-put-byte.ensures c.loop-b.invariant
+loop-b-preserved c = next _ _ _ _ c.args.text.now c.loop-b.fresh c.loop-b.b-index (omega arith) c.in_ok-put_margin.ensures c.in_ok-put_byte.ensures c.loop-b.invariant
 
 pub returns : goal.returns
-returns c = c.in-ok-put-end.ensures ∙ ap (λ l. vec_items c.loop-b.out ++ l) (sym (at_drop_all (paged c.loop-b.fresh) c.args.text.now c.loop-b.b-index (omega arith))) ∙ c.loop-b.invariant
+returns c = c.in_ok-put_end.ensures ∙ ap (λ l. vec_items c.loop-b.out ++ l) (sym (at_drop_all (paged c.loop-b.fresh) c.args.text.now c.loop-b.b-index (omega arith))) ∙ c.loop-b.invariant

@@ -7,9 +7,9 @@ use Rattle.commands.proofs.options.assignment_of.Goals as goal
 pub returns : goal.returns
 returns c k =
     elim k as (λ (x : Key). (v : List ℕ) → c.args.word.now ≡ key_word x ++ v → ⊥) [
-      | SstBatchSize ↦ c.in-default.ensures
-      | MaxWalBytesSize ↦ c.in-default-after.ensures
-      | MaxMemtableBytes ↦ c.in-default-after-2.ensures
-      | BlockSize ↦ c.in-default-after-3.ensures
-      | MinSeq ↦ c.in-default-after-4.ensures
+      | SstBatchSize ↦ c.in_default.ensures
+      | MaxWalBytesSize ↦ c.in_default-after.ensures
+      | MaxMemtableBytes ↦ c.in_default-after-2.ensures
+      | BlockSize ↦ c.in_default-after-3.ensures
+      | MinSeq ↦ c.in_default-after-4.ensures
     ]

@@ -5,10 +5,10 @@ use Rattle.console.proofs.Setting.{set_fault, set_more}
 use Rattle.script.proofs.Wording.{extent, extent_less}
 use Rattle.console.proofs.options.changes_of.Goals as goal
 
-pub returns-in-err-setting-of : goal.returns-in-err-setting-of
-returns-in-err-setting-of c =
-    let p = err_from_is_err_and c.from-residual.result c.from-residual.ensures.1 in
-    c.loop-rest.invariant c.from-residual.result (set_fault (option_map (λ x. x.now) c.loop-rest.rest) c.in-Some.line.now c.part-parted.result.front.now (option_map (λ x. x.now) c.part-parted.result.behind) _ c.in-err-setting-of.field-0.0 _ (ap (option_map (λ x. x.now)) c.in-Some.is) c.part-parted.ensures c.in-err-setting-of.ensures (p.1 ∙ ap Err p.2))
+pub returns-in_err-setting_of : goal.returns-in_err-setting_of
+returns-in_err-setting_of c =
+    let p = err_from_is_err_and c.from_residual.result c.from_residual.ensures.1 in
+    c.loop-rest.invariant c.from_residual.result (set_fault (option_map (λ x. x.now) c.loop-rest.rest) c.in-Some.line.now c.part-parted.result.front.now (option_map (λ x. x.now) c.part-parted.result.behind) _ c.in_err-setting_of.field-0.0 _ (ap (option_map (λ x. x.now)) c.in-Some.is) c.part-parted.ensures c.in_err-setting_of.ensures (p.1 ∙ ap Err p.2))
 
 pub loop-rest-smaller : goal.loop-rest-smaller
 loop-rest-smaller c =
@@ -16,4 +16,4 @@ loop-rest-smaller c =
 
 pub loop-rest-preserved : goal.loop-rest-preserved
 loop-rest-preserved c r h =
-    c.loop-rest.invariant r (set_more (option_map (λ x. x.now) c.loop-rest.rest) c.in-Some.line.now c.part-parted.result.front.now (option_map (λ x. x.now) c.part-parted.result.behind) _ c.with-changes.result c.in-ok-setting-of.field-0 r (ap (option_map (λ x. x.now)) c.in-Some.is) c.part-parted.ensures c.in-ok-setting-of.ensures c.with-changes.ensures h)
+    c.loop-rest.invariant r (set_more (option_map (λ x. x.now) c.loop-rest.rest) c.in-Some.line.now c.part-parted.result.front.now (option_map (λ x. x.now) c.part-parted.result.behind) _ c.with-changes.result c.in_ok-setting_of.field-0 r (ap (option_map (λ x. x.now)) c.in-Some.is) c.part-parted.ensures c.in_ok-setting_of.ensures c.with-changes.ensures h)

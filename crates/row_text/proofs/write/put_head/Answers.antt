@@ -4,6 +4,6 @@ use Rattle.row_text.proofs.write.put_head.Goals as goal
 
 pub returns : goal.returns
 returns c =
-    let p = c.put-decimal.ensures.appends in
-    let q = same _ _ _ _ (ap (λ b. 9 ∷ b ∷ 9 ∷ []) c.letter-of-letter.ensures) c.put.ensures in
-    record { appends = both _ _ _ _ _ p q; short = omega (arith, p.len, q.len, c.put-decimal.ensures.short) }
+    let p = c.put_decimal.ensures.appends in
+    let q = same _ _ _ _ (ap (λ b. 9 ∷ b ∷ 9 ∷ []) c.letter_of-letter.ensures) c.put.ensures in
+    record { appends = both _ _ _ _ _ p q; short = omega (arith, p.len, q.len, c.put_decimal.ensures.short) }

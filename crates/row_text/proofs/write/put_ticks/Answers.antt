@@ -4,9 +4,9 @@ use Rattle.row_text.proofs.write.put_ticks.Goals as goal
 
 pub returns : goal.returns
 returns c =
-    let p = c.put-tick.ensures in
+    let p = c.put_tick.ensures in
     let q = c.put.ensures in
-    let r = c.put-tick-2.ensures in
+    let r = c.put_tick-2.ensures in
     let s = c.put-2.ensures in
     record {
       appends = four _ _ _ _ _ _ _ _ _ p.appends q r.appends s;

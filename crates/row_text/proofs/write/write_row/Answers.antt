@@ -6,7 +6,7 @@ use Rattle.row_text.proofs.write.write_row.Goals as goal
 
 pub returns : goal.returns
 returns c =
-    let all = both _ _ _ _ _ c.put-head.ensures.appends (both _ _ _ _ _ c.put-ticks.ensures.appends c.put-digits.ensures) in
+    let all = both _ _ _ _ _ c.put_head.ensures.appends (both _ _ _ _ _ c.put_ticks.ensures.appends c.put_digits.ensures) in
     let e = c.args.row in
     let whole = written (decimal e.seq) (tick e.create_ts) (tick e.expire_ts) e.key.now c.digits-digits.result.now (digits_of e.value) (letter (kind_of e.value)) c.digits-digits.ensures in
     all.items ∙ (λ i. c.reserve.ensures.items i ++ whole i)

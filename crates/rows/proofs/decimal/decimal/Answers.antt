@@ -11,11 +11,11 @@ loop-i-init c = begins _ _ c.requires.low c.requires.top (omega arith)
 pub returns-then-i-gt0 : goal.returns-then-i-gt0
 returns-then-i-gt0 c = done _ _ c.requires.low c.requires.top (omega arith) _ _ _ c.loop-i.invariant (omega arith) (omega arith) (omega arith) (omega arith)
 
-pub returns-in-default : goal.returns-in-default
-returns-in-default c =
+pub returns-in_default : goal.returns-in_default
+returns-in_default c =
     stuck _ _ c.requires.low c.requires.top (omega arith) _ _ _ c.loop-i.invariant (omega arith)
     (λ lt nine pos. elim c.else-b-eq9.branch [ else-b-eq9-via-then-b-eq9+else-i-gt0 w ↦ omega arith | else-b-eq9-via-else-b-eq9 w ↦ w.if-b-eq9.false nine ])
-    (λ lt. c.in-default.ensures)
+    (λ lt. c.in_default.ensures)
 
 pub loop-i-preserved : goal.loop-i-preserved
 loop-i-preserved c =

@@ -6,10 +6,10 @@ use Rattle.rows.proofs.kind.kind_at.Goals.{then-at-text-2-via-then-at-text-2, th
 pub returns-then-at-text : goal.returns-then-at-text
 returns-then-at-text c = no_letter _ _ c.requires (λ lt. absurd (omega arith))
 
-pub returns-in-default : goal.returns-in-default
-returns-in-default c =
+pub returns-in_default : goal.returns-in_default
+returns-in_default c =
     let e : c.from.result ≡ get_or c.args.text.now c.args.at 0 = omega arith in
-    no_letter _ _ c.requires (λ lt k f. c.in-default.ensures k (e ∙ f))
+    no_letter _ _ c.requires (λ lt k f. c.in_default.ensures k (e ∙ f))
 
 pub returns-then-at-text-2 : goal.returns-then-at-text-2
 returns-then-at-text-2 c =

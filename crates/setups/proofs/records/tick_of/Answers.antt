@@ -6,20 +6,20 @@ use Rattle.std.proofs.lemmas.Bool.{false≢true}
 use Rattle.setups.proofs.Ticks.{is_text, read_back}
 use Rattle.setups.proofs.records.tick_of.Goals as goal
 
-pub returns-in-default : goal.returns-in-default
-returns-in-default c z small e = c.in-default.ensures.cases.0 (is_text _ z small e)
+pub returns-in_default : goal.returns-in_default
+returns-in_default c z small e = c.in_default.ensures.cases.0 (is_text _ z small e)
 
-pub returns-in-default-from-str-radix : goal.returns-in-default-from-str-radix
-returns-in-default-from-str-radix c z small e = c.in-default-from-str-radix.not-Ok z (read_back _ _ z _ small c.in-Ok.ensures.cases.0 e c.from-str-radix.ensures.value)
+pub returns-in_default-from_str_radix : goal.returns-in_default-from_str_radix
+returns-in_default-from_str_radix c z small e = c.in_default-from_str_radix.not-Ok z (read_back _ _ z _ small c.in-Ok.ensures.cases.0 e c.from_str_radix.ensures.value)
 
-pub returns-then-is-word : goal.returns-then-is-word
-returns-then-is-word c = sym (c.if-is-word.ensures.0 refl) ∙ c.as-bytes.ensures.value ∙ c.in-ok-printed.ensures.ok
+pub returns-then-is_word : goal.returns-then-is_word
+returns-then-is_word c = sym (c.if-is_word.ensures.0 refl) ∙ c.as_bytes.ensures.value ∙ c.in_ok-printed.ensures.ok
 
 pub returns : goal.returns
 returns c z small e =
-    let tick = c.in-Ok-from-str-radix.tick in
-    let r = read_back _ _ z _ small c.in-Ok.ensures.cases.0 e c.from-str-radix.ensures.value in
-    let same : Ok tick ≡ Ok z = sym c.in-Ok-from-str-radix.is ∙ r in
+    let tick = c.in-Ok-from_str_radix.tick in
+    let r = read_back _ _ z _ small c.in-Ok.ensures.cases.0 e c.from_str_radix.ensures.value in
+    let same : Ok tick ≡ Ok z = sym c.in-Ok-from_str_radix.is ∙ r in
     let is : tick ≡ z = cc in
     let back : to_z w64 (of_z w64 tick) ≡ z = ap (λ (x : ℤ). to_z w64 (of_z w64 x)) is ∙ to_z-of_z w64 z (sfits_of small) in
-    false≢true (c.if-is-word.ensures.1 (c.as-bytes.ensures.value ∙ c.in-ok-printed.ensures.ok ∙ ap signed_decimal back ∙ sym e))
+    false≢true (c.if-is_word.ensures.1 (c.as_bytes.ensures.value ∙ c.in_ok-printed.ensures.ok ∙ ap signed_decimal back ∙ sym e))

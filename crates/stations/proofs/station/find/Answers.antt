@@ -4,12 +4,12 @@ use Rattle.stations.specs.Stations.{names}
 use Rattle.stations.proofs.Naming.{name_at}
 use Rattle.stations.proofs.station.find.Goals as goal
 
-pub returns-then-is-word : goal.returns-then-is-word
-returns-then-is-word c =
+pub returns-then-is_word : goal.returns-then-is_word
+returns-then-is_word c =
     let l : c.loop-i.i < length c.args.stations.now = omega arith in
-    (l, name_at _ _ _ l c.index-stations-i.is ∙ sym c.as-bytes.ensures ∙ c.if-is-word.ensures.0 refl)
+    (l, name_at _ _ _ l c.index-stations-i.is ∙ sym c.as_bytes.ensures ∙ c.if-is_word.ensures.0 refl)
 
 pub loop-i-preserved : goal.loop-i-preserved
 loop-i-preserved c =
     let l : c.loop-i.i < length c.args.stations.now = omega arith in
-    below_more _ _ c.loop-i.invariant (λ e. false≢true (c.if-is-word.ensures.1 (c.as-bytes.ensures ∙ sym (name_at _ _ _ l c.index-stations-i.is) ∙ e)))
+    below_more _ _ c.loop-i.invariant (λ e. false≢true (c.if-is_word.ensures.1 (c.as_bytes.ensures ∙ sym (name_at _ _ _ l c.index-stations-i.is) ∙ e)))

@@ -4,8 +4,8 @@ use Rattle.rows.specs.Rows.{Hex, room, kind_of, digits_of}
 use Rattle.tables.proofs.Texts.{cut_hex}
 use Rattle.tables.proofs.arena.read.Goals as goal
 
-pub invariant-of-result : goal.invariant-of-result
-invariant-of-result c =
+pub invariant_of-result : goal.invariant_of-result
+invariant_of-result c =
     let s = c.args.slot in
     let l = c.requires.lies in
     let text = c.args.text.now in
@@ -14,6 +14,6 @@ invariant-of-result c =
     let cut = take (at + s.value_len - at) (drop at text) in
     let key = cut_hex text s.start (at - s.start) 128 c.requires.digits (omega (arith, l.placed)) (omega (arith, l.keyed.0)) (omega (arith, l.keyed.1)) in
     let value : Hex most cut = cut_hex text at (at + s.value_len - at) most c.requires.digits (omega (arith, l.placed)) (omega (arith, l.valued.0)) (omega (arith, l.valued.1)) in
-    let of-kind : Hex (room (kind_of c.value-of.result)) cut = subst (λ (k : Kind). Hex (room k) cut) (sym c.value-of.ensures.kind) value in
-    let held : Hex (room (kind_of c.value-of.result)) (digits_of c.value-of.result) = subst (Hex (room (kind_of c.value-of.result))) (sym (c.value-of.ensures.whole value.1)) of-kind in
+    let of-kind : Hex (room (kind_of c.value_of.result)) cut = subst (λ (k : Kind). Hex (room k) cut) (sym c.value_of.ensures.kind) value in
+    let held : Hex (room (kind_of c.value_of.result)) (digits_of c.value_of.result) = subst (Hex (room (kind_of c.value_of.result))) (sym (c.value_of.ensures.whole value.1)) of-kind in
     (l.marked.0, (l.marked.1, (l.marked.2, (key, (held, tt)))))

@@ -8,11 +8,11 @@ loop-j-preserved g c =
     let m = g.S.Store.means in
     let b = m c.args.store.now in (
       simp length-set c.loop-j.invariant.0,
-      same_trans _ _ _ c.loop-j.invariant.1 c.wal-object-exists.ensures.same,
+      same_trans _ _ _ c.loop-j.invariant.1 c.wal_object_exists.ensures.same,
       below_more _ _
           (λ k h. let ne : k ≢ c.loop-j.j = omega arith in rw get_or-set_other (c.loop-j.invariant.2 k h))
           (let lt : c.loop-j.j < length c.loop-j.answers = omega (arith, c.loop-j.invariant.0) in
           rw get_or-set_same
-          (let t = tells_back b _ _ _ c.loop-j.invariant.1 c.wal-object-exists.ensures.tells in
-          subst (λ (n : ℕ). Tells b (c.args.start + n) c.wal-object-exists.result) c.power-offset.ensures.value t)),
+          (let t = tells_back b _ _ _ c.loop-j.invariant.1 c.wal_object_exists.ensures.tells in
+          subst (λ (n : ℕ). Tells b (c.args.start + n) c.wal_object_exists.result) c.power-offset.ensures.value t)),
     )

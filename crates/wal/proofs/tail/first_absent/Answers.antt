@@ -20,32 +20,32 @@ rounds-preserved g c = (
   omega arith,
   omega arith,
   omega arith,
-  same_trans _ _ _ c.rounds.invariant.3 c.ask-round-answers.ensures.same,
+  same_trans _ _ _ c.rounds.invariant.3 c.ask_round-answers.ensures.same,
   λ k h.
-      more_there _ _ _ c.args.start c.rounds.exp c.ask-round-answers.result c.rounds.invariant.3 c.ask-round-answers.ensures 8 (omega arith)
+      more_there _ _ _ c.args.start c.rounds.exp c.ask_round-answers.result c.rounds.invariant.3 c.ask_round-answers.ensures 8 (omega arith)
       c.rounds.invariant.4
       (λ i l. c.loop-answer.invariant.1 i (omega arith))
       k
       (omega arith),
 )
 
-pub returns-in-err-answer : goal.returns-in-err-answer
-returns-in-err-answer g c =
+pub returns-in_err-answer : goal.returns-in_err-answer
+returns-in_err-answer g c =
     let m = g.S.Store.means in
     let a = m c.args.store.now in
     let p = behind a.held c.args.start in
     let i = c.loop-answer.answer-index in
-    let below : i < 8 = omega (arith, c.ask-round-answers.ensures.long) in
-    let cut = is_cut a _ _ c.args.start c.rounds.exp c.ask-round-answers.result c.rounds.invariant.3 c.ask-round-answers.ensures i c.in-err-answer.field-0.0 below c.in-err-answer.was in
-    let there = more_there a _ _ c.args.start c.rounds.exp c.ask-round-answers.result c.rounds.invariant.3 c.ask-round-answers.ensures i (omega arith) c.rounds.invariant.4 c.loop-answer.invariant.1 in
+    let below : i < 8 = omega (arith, c.ask_round-answers.ensures.long) in
+    let cut = is_cut a _ _ c.args.start c.rounds.exp c.ask_round-answers.result c.rounds.invariant.3 c.ask_round-answers.ensures i c.in_err-answer.field-0.0 below c.in_err-answer.was in
+    let there = more_there a _ _ c.args.start c.rounds.exp c.ask_round-answers.result c.rounds.invariant.3 c.ask_round-answers.ensures i (omega arith) c.rounds.invariant.4 c.loop-answer.invariant.1 in
     record {
-      same = same_trans _ _ _ c.rounds.invariant.3 c.ask-round-answers.ensures.same;
+      same = same_trans _ _ _ c.rounds.invariant.3 c.ask_round-answers.ensures.same;
       answer = inr (inr (record {
         unsteady = cut.0;
         exp = c.rounds.exp + i;
         reached = first_reaches p (c.rounds.exp + i) (omega arith) there;
         below = omega arith;
-        is = carried c.from-residual.result c.in-err-answer.field-0.0 _ c.from-residual.ensures.1 cut.1;
+        is = carried c.from_residual.result c.in_err-answer.field-0.0 _ c.from_residual.ensures.1 cut.1;
       }));
     }
 
@@ -55,12 +55,12 @@ returns g c =
     let a = m c.args.store.now in
     let p = behind a.held c.args.start in
     let i = c.loop-answer.answer-index in
-    let below : i < 8 = omega (arith, c.ask-round-answers.ensures.long) in
+    let below : i < 8 = omega (arith, c.ask_round-answers.ensures.long) in
     let at : c.loop-answer.exp ≡ c.rounds.exp + i = c.loop-answer.invariant.0 in
-    let off : p (2 ^ (c.rounds.exp + i)) ≡ false = is_there a _ _ c.args.start c.rounds.exp c.ask-round-answers.result c.rounds.invariant.3 c.ask-round-answers.ensures i c.in-ok-answer.field-0 false below c.in-ok-answer.was c.if-not-branch.true in
-    let there = more_there a _ _ c.args.start c.rounds.exp c.ask-round-answers.result c.rounds.invariant.3 c.ask-round-answers.ensures i (omega arith) c.rounds.invariant.4 c.loop-answer.invariant.1 in
+    let off : p (2 ^ (c.rounds.exp + i)) ≡ false = is_there a _ _ c.args.start c.rounds.exp c.ask_round-answers.result c.rounds.invariant.3 c.ask_round-answers.ensures i c.in_ok-answer.field-0 false below c.in_ok-answer.was c.if-not-branch.true in
+    let there = more_there a _ _ c.args.start c.rounds.exp c.ask_round-answers.result c.rounds.invariant.3 c.ask_round-answers.ensures i (omega arith) c.rounds.invariant.4 c.loop-answer.invariant.1 in
     record {
-      same = same_trans _ _ _ c.rounds.invariant.3 c.ask-round-answers.ensures.same;
+      same = same_trans _ _ _ c.rounds.invariant.3 c.ask_round-answers.ensures.same;
       answer = inl (
         (c.loop-answer.exp, c.rounds.heads + 8),
         refl,

@@ -13,24 +13,24 @@ loop-left-init g c =
     let z : n ≡ n - 0 = omega arith in
     (omega arith, omega arith, same_refl _, subst (λ (j : ℕ). Between p n (c.power-left.result + 1) c.power-right.result j) z b)
 
-pub returns-in-err-wal-object-exists : goal.returns-in-err-wal-object-exists
-returns-in-err-wal-object-exists g c =
+pub returns-in_err-wal_object_exists : goal.returns-in_err-wal_object_exists
+returns-in_err-wal_object_exists g c =
     let a = g.S.Store.means c.args.store.now in
     let p = behind a.held c.args.start in
     let n = c.args.absent - 1 in
     let l = c.loop-left in
     let w = l.invariant.3 in
     let t : l.left < l.right = omega arith in
-    let cut = tells_err a _ c.wal-object-exists.result c.in-err-wal-object-exists.field-0.0 (tells_back a _ _ _ l.invariant.2 c.wal-object-exists.ensures.tells) c.in-err-wal-object-exists.was in
+    let cut = tells_err a _ c.wal_object_exists.result c.in_err-wal_object_exists.field-0.0 (tells_back a _ _ _ l.invariant.2 c.wal_object_exists.ensures.tells) c.in_err-wal_object_exists.was in
     let h : 0 < n - l.heads = more p n l.left l.right (n - l.heads) w t in
     let d = asks_middle p n l.left l.right (n - l.heads) w t (n - (l.heads + 1)) (omega arith) in
     record {
-      same = same_trans _ _ _ l.invariant.2 c.wal-object-exists.ensures.same;
+      same = same_trans _ _ _ l.invariant.2 c.wal_object_exists.ensures.same;
       answer = inr (record {
         unsteady = cut.0;
         at = l.left + (l.right - l.left) / 2;
         halves = halves_at p c.args.absent _ c.requires.some d;
-        is = carried c.from-residual.result c.in-err-wal-object-exists.field-0.0 _ c.from-residual.ensures.1 cut.1;
+        is = carried c.from_residual.result c.in_err-wal_object_exists.field-0.0 _ c.from_residual.ensures.1 cut.1;
       });
     }
 
@@ -42,11 +42,11 @@ loop-left-preserved-then-branch g c =
     let l = c.loop-left in
     let w = l.invariant.3 in
     let t : l.left < l.right = omega arith in
-    let there = tells_ok a _ c.wal-object-exists.result c.in-ok-wal-object-exists.field-0 true (tells_back a _ _ _ l.invariant.2 c.wal-object-exists.ensures.tells) c.in-ok-wal-object-exists.was c.if-branch.true in
+    let there = tells_ok a _ c.wal_object_exists.result c.in_ok-wal_object_exists.field-0 true (tells_back a _ _ _ l.invariant.2 c.wal_object_exists.ensures.tells) c.in_ok-wal_object_exists.was c.if-branch.true in
     let h : 0 < n - l.heads = more p n l.left l.right (n - l.heads) w t in (
       omega arith,
       l.invariant.1,
-      same_trans _ _ _ l.invariant.2 c.wal-object-exists.ensures.same,
+      same_trans _ _ _ l.invariant.2 c.wal_object_exists.ensures.same,
       up p n l.left l.right (n - l.heads) w t (n - (l.heads + 1)) (omega arith) there,
     )
 
@@ -58,11 +58,11 @@ loop-left-preserved g c =
     let l = c.loop-left in
     let w = l.invariant.3 in
     let t : l.left < l.right = omega arith in
-    let gone = tells_ok a _ c.wal-object-exists.result c.in-ok-wal-object-exists.field-0 false (tells_back a _ _ _ l.invariant.2 c.wal-object-exists.ensures.tells) c.in-ok-wal-object-exists.was c.if-branch.false in
+    let gone = tells_ok a _ c.wal_object_exists.result c.in_ok-wal_object_exists.field-0 false (tells_back a _ _ _ l.invariant.2 c.wal_object_exists.ensures.tells) c.in_ok-wal_object_exists.was c.if-branch.false in
     let h : 0 < n - l.heads = more p n l.left l.right (n - l.heads) w t in (
       omega arith,
       omega arith,
-      same_trans _ _ _ l.invariant.2 c.wal-object-exists.ensures.same,
+      same_trans _ _ _ l.invariant.2 c.wal_object_exists.ensures.same,
       down p n l.left l.right (n - l.heads) w t (n - (l.heads + 1)) (omega arith) gone,
     )
 

@@ -5,13 +5,13 @@ use Rattle.wal_init.specs.WriterInit.{first_says}
 use Rattle.wal_init.proofs.Beginning.{refused_fence, no_cause}
 use Rattle.wal_init.proofs.writer_init.fence_and_init.Goals as goal
 
-pub returns-in-err-fence : goal.returns-in-err-fence
-returns-in-err-fence g c =
+pub returns-in_err-fence : goal.returns-in_err-fence
+returns-in_err-fence g c =
     let m = c.args.manifest in
-    let p = err_from_is_err_and c.from-residual-in-err-fence.result c.from-residual-in-err-fence.ensures.1 in
-    let e : first_says m c.args.id c.args.options ≡ granted [] = c.in-ok-block.ensures.checked.0 in
+    let p = err_from_is_err_and c.from_residual-in_err-fence.result c.from_residual-in_err-fence.ensures.1 in
+    let e : first_says m c.args.id c.args.options ≡ granted [] = c.in_ok-block.ensures.checked.0 in
     rw (p.1, p.2)
     record {
-      opened = refused_fence _ _ _ m c.args.id c.args.options c.in-ok-start.start _ e c.in-ok-start.ensures.begins c.in-err-fence.ensures.fenced;
+      opened = refused_fence _ _ _ m c.args.id c.args.options c.in_ok-start.start _ e c.in_ok-start.ensures.begins c.in_err-fence.ensures.fenced;
       untouched = λ f. absurd (no_cause m c.args.id c.args.options e f);
     }

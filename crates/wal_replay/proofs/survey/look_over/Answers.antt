@@ -11,10 +11,10 @@ use Rattle.wal_replay.proofs.SurveyLaws.{unseen, Looked, looked_more, looked_all
 use Rattle.wal_replay.proofs.TextLaws.{damage_here, moves_in}
 use Rattle.wal_replay.proofs.survey.look_over.Goals as goal
 
-pub returns-in-err-look-ahead : goal.returns-in-err-look-ahead
-returns-in-err-look-ahead c =
-    let p = err_from_is_err_and c.from-residual.result c.from-residual.ensures.1 in
-    rw (p.1, p.2) (damage_here _ _ _ _ c.new-reader.ensures.text c.new-reader.ensures.place c.in-err-look-ahead.ensures.answer)
+pub returns-in_err-look_ahead : goal.returns-in_err-look_ahead
+returns-in_err-look_ahead c =
+    let p = err_from_is_err_and c.from_residual.result c.from_residual.ensures.1 in
+    rw (p.1, p.2) (damage_here _ _ _ _ c.new-reader.ensures.text c.new-reader.ensures.place c.in_err-look_ahead.ensures.answer)
 
 -- the rows with the one that was just read
 stepped : (c : goal.After-see-seen) → Looked c.args.text.now c.args.watermark (unseen (to_z w64 (of_z w64 c.args.latest_tick)) c.args.latest_seq) c.see-seen.result c.more.new.reader.place × (c.more.new.reader.place ≡ c.loop-reader.reader.place + length (line (row_under c.more.new.reader)))

@@ -15,7 +15,7 @@ returns c =
     let was = c.index-mut.result.now in
     record {
       place = c.in-Some.i;
-      finds = subst (λ (xs : List Station). Finds xs c.args.word.now (Some c.in-Some.i)) c.as-slice.ensures.value c.in-Some.ensures;
+      finds = subst (λ (xs : List Station). Finds xs c.args.word.now (Some c.in-Some.i)) c.as_slice.ensures.value c.in-Some.ensures;
       was = was;
       there = c.index-mut.ensures.value;
       is = record { name = was.name; opening = c.arrive-asked.new.self };

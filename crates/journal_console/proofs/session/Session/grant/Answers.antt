@@ -7,11 +7,11 @@ use Rattle.wal_init.specs.WriterInit.{Opened}
 use Rattle.journal_console.proofs.session.Session.grant.Goals as goal
 
 -- the store before and after the fence
-abbrev before-store : (c : goal.After-push-reserved) → Meaning
+abbrev before-store : (c : goal.After-push_reserved) → Meaning
 before-store c = scripted memory_means c.args.self.now.store
 
-abbrev after_store : (c : goal.After-push-reserved) → Meaning
-after_store c = scripted memory_means c.fence-and-init.new.store
+abbrev after_store : (c : goal.After-push_reserved) → Meaning
+after_store c = scripted memory_means c.fence_and_init.new.store
 
 pub returns-in-Ok : goal.returns-in-Ok
 returns-in-Ok c =
@@ -20,8 +20,8 @@ returns-in-Ok c =
     let attempts = c.attempts.ensures in
     record {
       found = Ok g;
-      opens = subst (λ (o : Options). Opened (before-store c) (after_store c) c.args.self.now.settings.manifest c.args.id o (Ok g)) c.opening-options-options.ensures c.in-Ok.ensures.opened;
-      admits = (cc, (_, record { name = refl; opening = c.new-opening.ensures }, c.push-reserved.ensures.items));
+      opens = subst (λ (o : Options). Opened (before-store c) (after_store c) c.args.self.now.settings.manifest c.args.id o (Ok g)) c.opening_options-options.ensures c.in-Ok.ensures.opened;
+      admits = (cc, (_, record { name = refl; opening = c.new-opening.ensures }, c.push_reserved.ensures.items));
       framed = record { settings = refl; places = refl; bytes = refl; marks = refl };
       account = refl;
       begun = refl;

@@ -7,8 +7,8 @@ returns-then-self-text c =
     let end : c.args.self.now.place ≡ length c.args.self.now.text.now = omega arith in
     record { text = refl; answer = (end, refl, refl); back = λ w rest v e. absurd (back_end _ _ w rest end e) }
 
-pub damage-at-requires : goal.damage-at-requires
-damage-at-requires c =
+pub damage_at-requires : goal.damage_at-requires
+damage_at-requires c =
     let d = c.in-Err.ensures in
     record { within = d.within; fits = omega (arith, few_ends _ _ _ (omega arith) d) }
 
@@ -22,6 +22,6 @@ returns-in-Err c =
     let d = c.in-Err.ensures in
     record {
       text = refl;
-      answer = (reported _ _ _ _ (omega arith) d c.damage-at.ensures.place c.damage-at.ensures.line, refl, refl);
+      answer = (reported _ _ _ _ (omega arith) d c.damage_at.ensures.place c.damage_at.ensures.line, refl, refl);
       back = λ w rest v e. absurd (back_damaged _ _ _ w rest d v e);
     }

@@ -20,15 +20,15 @@ loop-guard-preserved c =
       omega (arith, w, weight_le (found_row t c.in-Ok.found), h.place, c.loop-guard.invariant.1),
     )
 
-pub damage-at-requires : goal.damage-at-requires
-damage-at-requires c =
+pub damage_at-requires : goal.damage_at-requires
+damage_at-requires c =
     let d = c.in-Err.ensures in
     record { within = d.within; fits = omega (arith, few_ends _ _ _ (omega arith) d) }
 
 pub returns-in-Err : goal.returns-in-Err
 returns-in-Err c =
     let d = c.in-Err.ensures in
-    let told = reported _ _ _ c.damage-at.result (omega arith) d c.damage-at.ensures.place c.damage-at.ensures.line in
+    let told = reported _ _ _ c.damage_at.result (omega arith) d c.damage_at.ensures.place c.damage_at.ensures.line in
     record {
       text = refl;
       place = c.drop-guard.ensures;

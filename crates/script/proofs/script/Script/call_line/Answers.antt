@@ -3,8 +3,8 @@ use Rattle.script.proofs.Lining.{line_shorter, lines_first}
 use Rattle.script.proofs.Reading.{found, passed}
 use Rattle.script.proofs.script.Script.call_line.Goals as goal
 
-pub returns-then-not-is-idle : goal.returns-then-not-is-idle
-returns-then-not-is-idle c =
+pub returns-then-not-is_idle : goal.returns-then-not-is_idle
+returns-then-not-is_idle c =
     let took = c.in-Some.ensures in
     let f = found _ _ _ (lines_first _ _ _ took.0) (search rules) in
     (sym c.loop-bytes.invariant.0 ∙ f.0, omega (arith, took.1, c.loop-bytes.invariant.1, f.1), refl)

@@ -10,23 +10,23 @@ returns-in-None c = record {
   shorter = tt;
   calls = record {
     found = c.in-Some.found;
-    behind = c.call-line.new.self;
-    words = c.split-text-split.result.words.now;
+    behind = c.call_line.new.self;
+    words = c.split_text-split.result.words.now;
     finds = c.in-Some.ensures;
     error = refl;
-    splits = subst (λ (l : Last). Splits c.in-Some.found.bytes.now c.split-text-split.result.words.now l) c.in-Here.is c.split-text-split.ensures;
+    splits = subst (λ (l : Last). Splits c.in-Some.found.bytes.now c.split_text-split.result.words.now l) c.in-Here.is c.split_text-split.ensures;
     gives = c.in-None.ensures;
   };
 }
 
-taken : (c : goal.Joined-split) → Taken c.args.self.now (record { line = c.in-Some.found.number; words = c.split-text-split.result.words; text = c.match-split.text }) c.match-split.self
+taken : (c : goal.Joined-split) → Taken c.args.self.now (record { line = c.in-Some.found.number; words = c.split_text-split.result.words; text = c.match-split.text }) c.match-split.self
 taken c = record {
   found = c.in-Some.found;
-  behind = c.call-line.new.self;
-  last = c.split-text-split.result.last;
+  behind = c.call_line.new.self;
+  last = c.split_text-split.result.last;
   finds = c.in-Some.ensures;
   number = refl;
-  splits = c.split-text-split.ensures;
+  splits = c.split_text-split.ensures;
   text = elim c.match-split.branch [
     | in-Here+in-Some-text w ↦ texts_lines _ _ _ _ _ _ w.in-Here.is w.text-is w.self-is w.in-Some-text.ensures
     | in-Digits w ↦ texts_hex _ _ _ _ _ w.in-Digits.is w.text-is w.self-is

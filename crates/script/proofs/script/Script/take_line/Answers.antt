@@ -3,13 +3,13 @@ use Rattle.std.proofs.lemmas.List.{nil_from_length}
 use Rattle.script.proofs.Lining.{line_shorter}
 use Rattle.script.proofs.script.Script.take_line.Goals as goal
 
-pub returns-then-is-empty : goal.returns-then-is-empty
-returns-then-is-empty c =
+pub returns-then-is_empty : goal.returns-then-is_empty
+returns-then-is_empty c =
     let none : length c.args.self.now.rest.now ≡ 0 = search rules in
     (nil_from_length _ none, nil_from_length _ none, refl)
 
-pub invariant-of-self : goal.invariant-of-self
-invariant-of-self c =
+pub invariant_of-self : goal.invariant_of-self
+invariant_of-self c =
     let some : 0 < length c.args.self.now.rest.now = search rules in
-    let shorter = line_shorter _ _ _ (c.first-line-cut.ensures some) in
+    let shorter = line_shorter _ _ _ (c.first_line-cut.ensures some) in
     (omega (arith, shorter, c.args.self.now.fits), tt)

@@ -6,22 +6,22 @@ use Rattle.store.proofs.memory.MemoryStore.add.Goals as goal
 use Rattle.store.proofs.memory.MemoryStore.add.Goals.{After-insert}
 
 -- the bytes of the new file find the memory that is reserved for them
-appended : (c : goal.After-insert) → (vec_items c.extend-from-slice.new.self ≡ vec_items c.args.self.now.text ++ c.args.text.now) × (vec_len c.extend-from-slice.new.self ≡ vec_len c.args.self.now.text + length c.args.text.now)
+appended : (c : goal.After-insert) → (vec_items c.extend_from_slice.new.self ≡ vec_items c.args.self.now.text ++ c.args.text.now) × (vec_len c.extend_from_slice.new.self ≡ vec_len c.args.self.now.text + length c.args.text.now)
 appended c =
-    let ok : is_ok c.extend-from-slice.result ≡ true = c.extend-from-slice.ensures.succeeds (omega (arith, c.args.self.now.spare, c.requires.room)) in
-    (c.extend-from-slice.ensures.items ∙ cond-true _ _ _ ok, c.extend-from-slice.ensures.len ∙ cond-true _ _ _ ok)
+    let ok : is_ok c.extend_from_slice.result ≡ true = c.extend_from_slice.ensures.succeeds (omega (arith, c.args.self.now.spare, c.requires.room)) in
+    (c.extend_from_slice.ensures.items ∙ cond-true _ _ _ ok, c.extend_from_slice.ensures.len ∙ cond-true _ _ _ ok)
 
-pub invariant-of-self : goal.invariant-of-self
-invariant-of-self c =
+pub invariant_of-self : goal.invariant_of-self
+invariant_of-self c =
     let long = (appended c).1 in
     let s = c.args.self.now in (
       omega (arith, s.indexed, c.requires.place, c.insert.ensures.len, c.insert.ensures.capacity),
       (
-        omega (arith, s.spare, c.requires.room, long, c.extend-from-slice.ensures.capacity),
+        omega (arith, s.spare, c.requires.room, long, c.extend_from_slice.ensures.capacity),
         (
           c.insert.ensures.ordered,
           (
-            inside_grown (vec_items s.index) (vec_items c.insert.new.index) _ c.insert.ensures.finds (vec_len s.text) (vec_len c.extend-from-slice.new.self) s.inside (omega (arith, long)) (omega (arith, long, c.len-start.ensures)) c.requires.limit,
+            inside_grown (vec_items s.index) (vec_items c.insert.new.index) _ c.insert.ensures.finds (vec_len s.text) (vec_len c.extend_from_slice.new.self) s.inside (omega (arith, long)) (omega (arith, long, c.len-start.ensures)) c.requires.limit,
             tt,
           ),
         ),
@@ -31,6 +31,6 @@ invariant-of-self c =
 pub returns : goal.returns
 returns c =
     let s = c.args.self.now in
-    let p = files_grown (vec_items s.index) (vec_items c.insert.new.index) _ c.insert.ensures.finds (vec_items s.text) (vec_items c.extend-from-slice.new.self) c.args.text.now (vec_len s.text) s.inside s.text.ok.0 c.len-start.ensures refl (appended (goal.at.returns c).After-insert).0 in
+    let p = files_grown (vec_items s.index) (vec_items c.insert.new.index) _ c.insert.ensures.finds (vec_items s.text) (vec_items c.extend_from_slice.new.self) c.args.text.now (vec_len s.text) s.inside s.text.ok.0 c.len-start.ensures refl (appended (goal.at.returns c).After-insert).0 in
     let H : (ℕ → Option (List ℕ)) → Held = λ f. record { files = f; places = s.places - 1; bytes = s.bytes - length c.args.text.now } in
     ap H p

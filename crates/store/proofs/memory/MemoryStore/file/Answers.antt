@@ -10,8 +10,8 @@ lies c =
     let e : extent_of (vec_items s.index) c.args.id ≡ Some c.in-Some.extent = search rules in
     (s.inside c.args.id c.in-Some.extent e).0
 
-pub overflow-add-end : goal.overflow-add-end
-overflow-add-end c = let h = lies (goal.at.overflow-add-end c).In-Some in search rules
+pub overflow_add-end : goal.overflow_add-end
+overflow_add-end c = let h = lies (goal.at.overflow_add-end c).In-Some in search rules
 
-pub slice-bounds-result-end : goal.slice-bounds-result-end
-slice-bounds-result-end c = let h = lies (goal.at.slice-bounds-result-end c).In-Some in search rules
+pub slice_bounds-result-end : goal.slice_bounds-result-end
+slice_bounds-result-end c = let h = lies (goal.at.slice_bounds-result-end c).In-Some in search rules

@@ -8,40 +8,40 @@ use Rattle.mem_table.proofs.Room.{has_room}
 use Rattle.tables.proofs.Puts.{put_taken}
 use Rattle.tables.proofs.Shelves.{long, size_bound}
 use Rattle.tables.proofs.shelf.Shelf.insert.Goals as goal
-use Rattle.tables.proofs.shelf.Shelf.insert.Goals.{After-push-reserved, at·returns}
+use Rattle.tables.proofs.shelf.Shelf.insert.Goals.{After-push_reserved, at·returns}
 
 pub insert-requires : goal.insert-requires
 insert-requires c = omega (arith, long c.args.self.now, c.args.self.now.ranks.ok.0, c.requires.gap.bound)
 
-pub size-after-size-requires : goal.size-after-size-requires
-size-after-size-requires c = record { bound = size_bound c.args.self.now c.args.row c.requires.room; old = omega arith }
+pub size_after-size-requires : goal.size_after-size-requires
+size_after-size-requires c = record { bound = size_bound c.args.self.now c.args.row c.requires.room; old = omega arith }
 
 -- a rank was reserved
-free : (c : goal.After-push-reserved) → vec_len c.args.self.now.ranks < vec_capacity c.args.self.now.ranks
+free : (c : goal.After-push_reserved) → vec_len c.args.self.now.ranks < vec_capacity c.args.self.now.ranks
 free c = let s = c.args.self.now in omega (arith, s.ranks_spare, (has_room (holds s) (row_of c.args.row) c.requires.room).0)
 
-inserted-ok : (c : goal.After-push-reserved) → is_ok c.insert.result ≡ true
+inserted-ok : (c : goal.After-push_reserved) → is_ok c.insert.result ≡ true
 inserted-ok c = c.insert.ensures.succeeds (free c)
 
-landed : (c : goal.After-push-reserved) → Landed c.args.self.now (row_of c.args.row) (vec_items c.store-slot.new.text) (vec_items c.push-reserved.new.self) (vec_items c.insert.new.self) c.left-after-puts.result.0 c.left-after-puts.result.1 c.size-after-size.result
+landed : (c : goal.After-push_reserved) → Landed c.args.self.now (row_of c.args.row) (vec_items c.store-slot.new.text) (vec_items c.push_reserved.new.self) (vec_items c.insert.new.self) c.left_after-puts.result.0 c.left_after-puts.result.1 c.size_after-size.result
 landed c =
     let s = c.args.self.now in
     let ks = came_in (vec_items s.ranks) _ c.args.i c.len-n.result (length (vec_items s.slots)) (is_ok c.insert.result) c.insert.ensures.items (inserted-ok c) (c.len-n.ensures ∙ s.slots.ok.0) in
     inserts s c.args.row c.requires.room _ c.store-slot.ensures.items c.store-slot.result c.store-slot.ensures.lies c.store-slot.ensures.row _ _ _ _ _
-    c.left-after-puts.ensures.puts c.left-after-puts.ensures.bytes c.args.i c.requires.gap c.push-reserved.ensures.items ks (omega (arith, c.size-after-size.ensures))
+    c.left_after-puts.ensures.puts c.left_after-puts.ensures.bytes c.args.i c.requires.gap c.push_reserved.ensures.items ks (omega (arith, c.size_after-size.ensures))
 
-pub invariant-of-self : goal.invariant-of-self
-invariant-of-self c =
+pub invariant_of-self : goal.invariant_of-self
+invariant_of-self c =
     let s = c.args.self.now in
     let t = c.store-slot.new.text in
     let room = has_room (holds s) (row_of c.args.row) c.requires.room in
-    let spare : vec_len t + 2 * c.left-after-puts.result.1 ≤ vec_capacity t = spare_left s c.args.row c.requires.room (vec_items t) (vec_len t) (vec_capacity t) c.left-after-puts.result.1 t.ok.0 c.store-slot.ensures.items c.store-slot.ensures.capacity c.left-after-puts.ensures.bytes in
-    let slots : vec_len c.push-reserved.new.self + c.left-after-puts.result.0 ≤ vec_capacity c.push-reserved.new.self = omega (arith, c.push-reserved.ensures.len, c.push-reserved.ensures.capacity, s.slots_spare, c.left-after-puts.ensures.puts, room.0) in
-    let ranks : vec_len c.insert.new.self + c.left-after-puts.result.0 ≤ vec_capacity c.insert.new.self = omega (arith, c.left-after-puts.ensures.puts, c.insert.ensures.len ∙ cond-true _ _ _ (inserted-ok c), (c.insert.ensures.in_place (free c)).1.0, s.ranks_spare, room.0) in
+    let spare : vec_len t + 2 * c.left_after-puts.result.1 ≤ vec_capacity t = spare_left s c.args.row c.requires.room (vec_items t) (vec_len t) (vec_capacity t) c.left_after-puts.result.1 t.ok.0 c.store-slot.ensures.items c.store-slot.ensures.capacity c.left_after-puts.ensures.bytes in
+    let slots : vec_len c.push_reserved.new.self + c.left_after-puts.result.0 ≤ vec_capacity c.push_reserved.new.self = omega (arith, c.push_reserved.ensures.len, c.push_reserved.ensures.capacity, s.slots_spare, c.left_after-puts.ensures.puts, room.0) in
+    let ranks : vec_len c.insert.new.self + c.left_after-puts.result.0 ≤ vec_capacity c.insert.new.self = omega (arith, c.left_after-puts.ensures.puts, c.insert.ensures.len ∙ cond-true _ _ _ (inserted-ok c), (c.insert.ensures.in_place (free c)).1.0, s.ranks_spare, room.0) in
     (spare, (slots, (ranks, facts _ _ _ _ _ _ (landed c).kept)))
 
 pub returns : goal.returns
 returns c = record {
-  put = put_taken c.requires.room (landed (goal.at.returns c).After-push-reserved);
-  came = comes_last c.args.self.now c.args.row (vec_items c.store-slot.new.text) c.store-slot.ensures.items c.store-slot.result c.store-slot.ensures.row (vec_items c.push-reserved.new.self) c.push-reserved.ensures.items;
+  put = put_taken c.requires.room (landed (goal.at.returns c).After-push_reserved);
+  came = comes_last c.args.self.now c.args.row (vec_items c.store-slot.new.text) c.store-slot.ensures.items c.store-slot.result c.store-slot.ensures.row (vec_items c.push_reserved.new.self) c.push_reserved.ensures.items;
 }

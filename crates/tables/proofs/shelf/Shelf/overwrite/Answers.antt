@@ -18,32 +18,32 @@ index-mut-requires c =
     let n = rank_is s c.args.i c.index.result.now c.index.ensures c.requires.there.bound in
     omega (arith, s.inside c.args.i (omega (arith, c.requires.there.bound, long s)), s.slots.ok.0)
 
-pub size-after-size-requires : goal.size-after-size-requires
-size-after-size-requires c =
-    let a = c.estimated-size.ensures ∙ ap size c.row-at.ensures in
+pub size_after-size-requires : goal.size_after-size-requires
+size_after-size-requires c =
+    let a = c.estimated_size.ensures ∙ ap size c.row_at.ensures in
     record { bound = size_bound c.args.self.now c.args.row c.requires.room; old = omega (arith, size_within c.args.self.now (row_of c.args.row) c.args.i c.requires.there.bound) }
 
 -- the size of the row that goes is taken off
-less : (c : goal.After-index-mut) → c.size-after-size.result + size (get_or (order_of c.args.self.now) c.args.i no_row) ≡ c.args.self.now.size + size (row_of c.args.row)
+less : (c : goal.After-index-mut) → c.size_after-size.result + size (get_or (order_of c.args.self.now) c.args.i no_row) ≡ c.args.self.now.size + size (row_of c.args.row)
 less c =
-    let a = c.estimated-size.ensures ∙ ap size c.row-at.ensures in
-    omega (arith, c.size-after-size.ensures, size_within c.args.self.now (row_of c.args.row) c.args.i c.requires.there.bound)
+    let a = c.estimated_size.ensures ∙ ap size c.row_at.ensures in
+    omega (arith, c.size_after-size.ensures, size_within c.args.self.now (row_of c.args.row) c.args.i c.requires.there.bound)
 
-landed : (c : goal.After-index-mut) → Landed c.args.self.now (row_of c.args.row) (vec_items c.store-slot.new.text) (set (vec_items c.args.self.now.slots) c.index.result.now c.store-slot.result) (vec_items c.args.self.now.ranks) c.left-after-puts.result.0 c.left-after-puts.result.1 c.size-after-size.result
+landed : (c : goal.After-index-mut) → Landed c.args.self.now (row_of c.args.row) (vec_items c.store-slot.new.text) (set (vec_items c.args.self.now.slots) c.index.result.now c.store-slot.result) (vec_items c.args.self.now.ranks) c.left_after-puts.result.0 c.left_after-puts.result.1 c.size_after-size.result
 landed c =
     let s = c.args.self.now in
     let n = rank_is s c.args.i c.index.result.now c.index.ensures c.requires.there.bound in
     overwrites s c.args.row c.requires.room (vec_items c.store-slot.new.text) c.store-slot.ensures.items c.store-slot.result c.store-slot.ensures.lies c.store-slot.ensures.row _ _ _ _ _
-    c.left-after-puts.ensures.puts c.left-after-puts.ensures.bytes c.args.i c.requires.there (less c) (ap (λ q. set (vec_items s.slots) q c.store-slot.result) n) refl
+    c.left_after-puts.ensures.puts c.left_after-puts.ensures.bytes c.args.i c.requires.there (less c) (ap (λ q. set (vec_items s.slots) q c.store-slot.result) n) refl
 
-pub invariant-of-self : goal.invariant-of-self
-invariant-of-self c =
+pub invariant_of-self : goal.invariant_of-self
+invariant_of-self c =
     let s = c.args.self.now in
     let t = c.store-slot.new.text in
-    let spare : vec_len t + 2 * c.left-after-puts.result.1 ≤ vec_capacity t = spare_left s c.args.row c.requires.room (vec_items t) (vec_len t) (vec_capacity t) c.left-after-puts.result.1 t.ok.0 c.store-slot.ensures.items c.store-slot.ensures.capacity c.left-after-puts.ensures.bytes in
-    let slots : vec_len s.slots + c.left-after-puts.result.0 ≤ vec_capacity s.slots = omega (arith, s.slots_spare, c.left-after-puts.ensures.puts) in
-    let ranks : vec_len s.ranks + c.left-after-puts.result.0 ≤ vec_capacity s.ranks = omega (arith, s.ranks_spare, c.left-after-puts.ensures.puts) in
-    (spare, (slots, (ranks, facts _ _ _ _ _ _ (landed (goal.at.invariant-of-self c).After-index-mut).kept)))
+    let spare : vec_len t + 2 * c.left_after-puts.result.1 ≤ vec_capacity t = spare_left s c.args.row c.requires.room (vec_items t) (vec_len t) (vec_capacity t) c.left_after-puts.result.1 t.ok.0 c.store-slot.ensures.items c.store-slot.ensures.capacity c.left_after-puts.ensures.bytes in
+    let slots : vec_len s.slots + c.left_after-puts.result.0 ≤ vec_capacity s.slots = omega (arith, s.slots_spare, c.left_after-puts.ensures.puts) in
+    let ranks : vec_len s.ranks + c.left_after-puts.result.0 ≤ vec_capacity s.ranks = omega (arith, s.ranks_spare, c.left_after-puts.ensures.puts) in
+    (spare, (slots, (ranks, facts _ _ _ _ _ _ (landed (goal.at.invariant_of-self c).After-index-mut).kept)))
 
 pub returns : goal.returns
 returns c = put_taken c.requires.room (landed (goal.at.returns c).After-index-mut)

@@ -8,40 +8,40 @@ use Rattle.mem_table.proofs.Room.{has_room}
 use Rattle.tables.proofs.Puts.{put_taken}
 use Rattle.tables.proofs.Shelves.{long, size_bound, size_within}
 use Rattle.tables.proofs.shelf.Shelf.supersede.Goals as goal
-use Rattle.tables.proofs.shelf.Shelf.supersede.Goals.{After-push-reserved, at·returns}
+use Rattle.tables.proofs.shelf.Shelf.supersede.Goals.{After-push_reserved, at·returns}
 
 pub index-mut-requires : goal.index-mut-requires
 index-mut-requires c = let s = c.args.self.now in omega (arith, c.requires.there.bound, long s, s.ranks.ok.0)
 
-pub size-after-size-requires : goal.size-after-size-requires
-size-after-size-requires c =
-    let a = c.estimated-size.ensures ∙ ap size c.row-at.ensures in
+pub size_after-size-requires : goal.size_after-size-requires
+size_after-size-requires c =
+    let a = c.estimated_size.ensures ∙ ap size c.row_at.ensures in
     record { bound = size_bound c.args.self.now c.args.row c.requires.room; old = omega (arith, size_within c.args.self.now (row_of c.args.row) c.args.i c.requires.there.bound) }
 
 -- the size of the row that goes is taken off
-less : (c : goal.After-push-reserved) → c.size-after-size.result + size (get_or (order_of c.args.self.now) c.args.i no_row) ≡ c.args.self.now.size + size (row_of c.args.row)
+less : (c : goal.After-push_reserved) → c.size_after-size.result + size (get_or (order_of c.args.self.now) c.args.i no_row) ≡ c.args.self.now.size + size (row_of c.args.row)
 less c =
-    let a = c.estimated-size.ensures ∙ ap size c.row-at.ensures in
-    omega (arith, c.size-after-size.ensures, size_within c.args.self.now (row_of c.args.row) c.args.i c.requires.there.bound)
+    let a = c.estimated_size.ensures ∙ ap size c.row_at.ensures in
+    omega (arith, c.size_after-size.ensures, size_within c.args.self.now (row_of c.args.row) c.args.i c.requires.there.bound)
 
-landed : (c : goal.After-push-reserved) → Landed c.args.self.now (row_of c.args.row) (vec_items c.store-slot.new.text) (vec_items c.push-reserved.new.self) (set (vec_items c.args.self.now.ranks) c.args.i c.len-n.result) c.left-after-puts.result.0 c.left-after-puts.result.1 c.size-after-size.result
+landed : (c : goal.After-push_reserved) → Landed c.args.self.now (row_of c.args.row) (vec_items c.store-slot.new.text) (vec_items c.push_reserved.new.self) (set (vec_items c.args.self.now.ranks) c.args.i c.len-n.result) c.left_after-puts.result.0 c.left_after-puts.result.1 c.size_after-size.result
 landed c =
     let s = c.args.self.now in
     supersedes s c.args.row c.requires.room (vec_items c.store-slot.new.text) c.store-slot.ensures.items c.store-slot.result c.store-slot.ensures.lies c.store-slot.ensures.row _ _ _ _ _
-    c.left-after-puts.ensures.puts c.left-after-puts.ensures.bytes c.args.i c.requires.there (less c) c.push-reserved.ensures.items (ap (set (vec_items s.ranks) c.args.i) (c.len-n.ensures ∙ s.slots.ok.0))
+    c.left_after-puts.ensures.puts c.left_after-puts.ensures.bytes c.args.i c.requires.there (less c) c.push_reserved.ensures.items (ap (set (vec_items s.ranks) c.args.i) (c.len-n.ensures ∙ s.slots.ok.0))
 
-pub invariant-of-self : goal.invariant-of-self
-invariant-of-self c =
+pub invariant_of-self : goal.invariant_of-self
+invariant_of-self c =
     let s = c.args.self.now in
     let t = c.store-slot.new.text in
     let room = has_room (holds s) (row_of c.args.row) c.requires.room in
-    let spare : vec_len t + 2 * c.left-after-puts.result.1 ≤ vec_capacity t = spare_left s c.args.row c.requires.room (vec_items t) (vec_len t) (vec_capacity t) c.left-after-puts.result.1 t.ok.0 c.store-slot.ensures.items c.store-slot.ensures.capacity c.left-after-puts.ensures.bytes in
-    let slots : vec_len c.push-reserved.new.self + c.left-after-puts.result.0 ≤ vec_capacity c.push-reserved.new.self = omega (arith, c.push-reserved.ensures.len, c.push-reserved.ensures.capacity, s.slots_spare, c.left-after-puts.ensures.puts, room.0) in
-    let ranks : vec_len s.ranks + c.left-after-puts.result.0 ≤ vec_capacity s.ranks = omega (arith, s.ranks_spare, c.left-after-puts.ensures.puts) in
+    let spare : vec_len t + 2 * c.left_after-puts.result.1 ≤ vec_capacity t = spare_left s c.args.row c.requires.room (vec_items t) (vec_len t) (vec_capacity t) c.left_after-puts.result.1 t.ok.0 c.store-slot.ensures.items c.store-slot.ensures.capacity c.left_after-puts.ensures.bytes in
+    let slots : vec_len c.push_reserved.new.self + c.left_after-puts.result.0 ≤ vec_capacity c.push_reserved.new.self = omega (arith, c.push_reserved.ensures.len, c.push_reserved.ensures.capacity, s.slots_spare, c.left_after-puts.ensures.puts, room.0) in
+    let ranks : vec_len s.ranks + c.left_after-puts.result.0 ≤ vec_capacity s.ranks = omega (arith, s.ranks_spare, c.left_after-puts.ensures.puts) in
     (spare, (slots, (ranks, facts _ _ _ _ _ _ (landed c).kept)))
 
 pub returns : goal.returns
 returns c = record {
-  put = put_taken c.requires.room (landed (goal.at.returns c).After-push-reserved);
-  came = comes_last c.args.self.now c.args.row (vec_items c.store-slot.new.text) c.store-slot.ensures.items c.store-slot.result c.store-slot.ensures.row (vec_items c.push-reserved.new.self) c.push-reserved.ensures.items;
+  put = put_taken c.requires.room (landed (goal.at.returns c).After-push_reserved);
+  came = comes_last c.args.self.now c.args.row (vec_items c.store-slot.new.text) c.store-slot.ensures.items c.store-slot.result c.store-slot.ensures.row (vec_items c.push_reserved.new.self) c.push_reserved.ensures.items;
 }

@@ -6,8 +6,8 @@ use Rattle.wal_replay.specs.Replays.{meaning}
 use Rattle.wal_replay.proofs.Reading.{reads_on, no_answer, not_some}
 use Rattle.wal_replay.proofs.replay.WalReplayIterator.next.Goals as goal
 
-pub read-on-requires : goal.read-on-requires
-read-on-requires g c = record {
+pub read_on-requires : goal.read_on-requires
+read_on-requires g c = record {
   buffer = c.if-buffer-lt-BUFFER-SIZE.false;
   table = (c.metadata-rows.ensures.listed, nil_from_length _ (omega (arith, c.metadata-rows.ensures.count, c.if-rows-gt0.false)));
 }
@@ -15,4 +15,4 @@ read-on-requires g c = record {
 pub returns-in-None : goal.returns-in-None
 returns-in-None g c =
     let n = no_answer (meaning c.args.self.now) (g.T.Table.means c.args.table.now) c.args.buffer.now c.if-buffer-lt-BUFFER-SIZE.false (omega (arith, c.metadata-rows.ensures.count, c.if-rows-gt0.false)) (ap (option_map said) c.in-None.is) in
-    record { call = reads_on _ _ _ _ _ _ _ _ _ n c.read-on.ensures; untouched = λ e. absurd (not_some _ n e) }
+    record { call = reads_on _ _ _ _ _ _ _ _ _ n c.read_on.ensures; untouched = λ e. absurd (not_some _ n e) }
