@@ -14,19 +14,13 @@ appended c =
 pub invariant_of-self : goal.invariant_of-self
 invariant_of-self c =
     let long = (appended c).1 in
-    let s = c.args.self.now in (
-      omega (arith, s.indexed, c.requires.place, c.insert.ensures.len, c.insert.ensures.capacity),
-      (
-        omega (arith, s.spare, c.requires.room, long, c.extend_from_slice.ensures.capacity),
-        (
-          c.insert.ensures.ordered,
-          (
-            inside_grown (vec_items s.index) (vec_items c.insert.new.index) _ c.insert.ensures.finds (vec_len s.text) (vec_len c.extend_from_slice.new.self) s.inside (omega (arith, long)) (omega (arith, long, c.len-start.ensures)) c.requires.limit,
-            tt,
-          ),
-        ),
-      ),
-    )
+    let s = c.args.self.now in
+    record {
+      indexed = omega (arith, s.indexed, c.requires.place, c.insert.ensures.len, c.insert.ensures.capacity);
+      spare = omega (arith, s.spare, c.requires.room, long, c.extend_from_slice.ensures.capacity);
+      ordered = c.insert.ensures.ordered;
+      inside = inside_grown (vec_items s.index) (vec_items c.insert.new.index) _ c.insert.ensures.finds (vec_len s.text) (vec_len c.extend_from_slice.new.self) s.inside (omega (arith, long)) (omega (arith, long, c.len-start.ensures)) c.requires.limit;
+    }
 
 pub returns : goal.returns
 returns c =
