@@ -3,6 +3,7 @@
 
 use journal_console::run::{Failure, run};
 use std::io::{BufWriter, Read};
+use std::process::ExitCode;
 use std::{env, fs};
 
 /// The files named as arguments, one after the other, or else standard input.
@@ -23,14 +24,14 @@ fn script(rt: &HostRuntime) -> Result<Vec<u8>, Failure> {
 /// Runs the script that is given.
 fn perform(rt: &HostRuntime) -> Result<(), Failure> {
     let text = script(rt)?;
-    let mut out = BufWriter::new(rt.stdout());
+    let mut out = BufWriter::new(rt.alloc(), rt.stdout())?;
     run(rt.alloc(), text.as_slice(), &mut out)
 }
 
-fn main(rt: HostRuntime) -> Result<(), Failure> {
-    let done = perform(&rt);
-    if let Err(failure) = &done {
-        eprintln!(rt; "{failure}")?;
-    }
-    done
+fn main(rt: HostRuntime) -> ExitCode {
+    let Err(failure) = perform(&rt) else {
+        return ExitCode::SUCCESS;
+    };
+    let _ = eprintln!(rt; "{failure}");
+    ExitCode::FAILURE
 }

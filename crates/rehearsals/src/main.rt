@@ -4,6 +4,7 @@
 use console::run::{Failure, run};
 use std::fs;
 use std::io::BufWriter;
+use std::process::ExitCode;
 
 const SCRIPTS: [&str; 3] = ["store.script", "faults.script", "late.script"];
 
@@ -11,16 +12,25 @@ const SCRIPTS: [&str; 3] = ["store.script", "faults.script", "late.script"];
 fn rehearse(rt: &HostRuntime, name: &str) -> Result<(), Failure> {
     println!(rt; "== {name}")?;
     let text = fs::read(rt, name)?;
-    let mut out = BufWriter::new(rt.stdout());
+    let mut out = BufWriter::new(rt.alloc(), rt.stdout())?;
     if let Err(failure) = run(rt.alloc(), text.as_slice(), &mut out) {
         println!(rt; "{failure}")?;
     }
     Ok(())
 }
 
-fn main(rt: HostRuntime) -> Result<(), Failure> {
+/// Runs every script.
+fn perform(rt: &HostRuntime) -> Result<(), Failure> {
     for name in SCRIPTS {
-        rehearse(&rt, name)?;
+        rehearse(rt, name)?;
     }
     Ok(())
+}
+
+fn main(rt: HostRuntime) -> ExitCode {
+    let Err(failure) = perform(&rt) else {
+        return ExitCode::SUCCESS;
+    };
+    let _ = eprintln!(rt; "{failure}");
+    ExitCode::FAILURE
 }

@@ -66,7 +66,7 @@ fn one_row(rt: HostRuntime) {
     assert_eq!(rt; row.seq, 7);
     assert_eq!(rt; row.create_ts, Some(100));
     assert_eq!(rt; row.expire_ts, None);
-    assert!(rt; row.key == b"6131");
+    assert!(rt; row.key == b"6131".as_slice());
     assert!(rt; matches!(row.value, ValueDeletable::Value(_)));
     assert_eq!(rt; row.estimated_size(), 20);
     assert!(rt; matches!(reader.advance(), Ok(false)));

@@ -10,7 +10,7 @@ fn again(rt: HostRuntime) -> Result<(), Fail> {
     let mut out = Vec::from_slice(rt.alloc(), b"before ")?;
     assert!(rt; rewrite(text, &mut out).is_ok());
     assert!(rt; out.len() == 7 + text.len());
-    assert!(rt; &out.as_slice()[7..] == text);
+    assert!(rt; &out.as_slice()[7..] == text.as_slice());
     Ok(())
 }
 
@@ -24,7 +24,7 @@ fn damage_writes_nothing(rt: HostRuntime) -> Result<(), Fail> {
             Err(RewriteFault::Damaged(Damage { line: 2, place: 18 }))
         )
     );
-    assert!(rt; out.as_slice() == b"before");
+    assert!(rt; out.as_slice() == b"before".as_slice());
     Ok(())
 }
 
