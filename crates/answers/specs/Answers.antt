@@ -1,5 +1,5 @@
 -- What is printed of the answers, and the account of them.
-use Rattle.std.specs.Prelude.{ℕ, ◌+◌, ◌-◌, ◌^◌, min, Bool, cond, List, [], ◌∷◌, ◌++◌, is_err, Ok, Err, codes, decimal, Result}
+use Rattle.std.specs.Prelude.{ℕ, ◌+◌, ◌-◌, ◌^◌, min, Bool, cond, List, ◌++◌, is_err, Ok, Err, codes, decimal, Result}
 use Rattle.row_text.specs.declared.fault.CheckFault.{CheckFault}
 use Rattle.row_text.specs.declared.fault.CheckFault.TheVariants.{Damaged, BlockSize}
 use Rattle.row_text.specs.declared.text.Checked.{Checked}

@@ -4,7 +4,6 @@ use Rattle.std.specs.Option.{option_map}
 use Rattle.script.specs.declared.call.Text.{Text}
 use Rattle.console.specs.declared.command.Command.{Command}
 use Rattle.console.specs.declared.command.Command.TheVariants.{Check, Options, Store, Script, Put, Head, Read}
-use Rattle.console.specs.declared.options.Changes.{Changes}
 use Rattle.script.specs.declared.reason.Reason.{Reason}
 use Rattle.script.specs.declared.reason.Reason.TheVariants.{UnknownCommand, WrongWords, NoText, UnknownOption, ExtraText}
 use Rattle.script.specs.Words.{others}

@@ -1,10 +1,9 @@
 -- What the lines of a script do.
-use Rattle.std.specs.Prelude.{◌≡◌, ℕ, ◌-◌, true, false, ◌⊎◌, List, [], replicate, Some, None, Ok, Err, vec_items, Option, Result}
+use Rattle.std.specs.Prelude.{◌≡◌, ℕ, ◌-◌, true, false, ◌⊎◌, List, [], Some, None, Ok, Err, vec_items, Option, Result}
 use Rattle.row_text.specs.declared.fault.CheckFault.{CheckFault}
 use Rattle.row_text.specs.declared.text.Checked.{Checked}
 use Rattle.row_text.specs.Checks.{Checks}
 use Rattle.store.specs.declared.fault.StoreFault.{StoreFault}
-use Rattle.store.specs.declared.marks.Mark.{Mark}
 use Rattle.store.specs.Calls.{Put, Head, Read}
 use Rattle.store.specs.Meaning.{Meaning}
 use Rattle.store.specs.Memory.{memory_means}
@@ -30,7 +29,7 @@ use Rattle.answers.specs.declared.account.Account.{Account}
 use Rattle.answers.specs.Answers.{holding, noted}
 use Rattle.console.specs.Commands.{Asks}
 use Rattle.console.specs.Settings.{changed}
-use Rattle.console.specs.Setups.{Fresh, Marked, MarksAre, NoMark}
+use Rattle.console.specs.Setups.{Fresh, Marked, MarksAre}
 
 -- what the session's store means
 abbrev pub store_of : Session → Meaning

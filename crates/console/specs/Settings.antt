@@ -1,5 +1,5 @@
 -- The options of a script.
-use Rattle.std.specs.Prelude.{◌≡◌, ℕ, ◌^◌, ◌<◌, ◌⊎◌, List, [], ◌∷◌, ◌++◌, Some, None, Ok, Err, codes, Option, Result, ◌≢◌}
+use Rattle.std.specs.Prelude.{◌≡◌, ℕ, ◌⊎◌, List, [], ◌∷◌, ◌++◌, Some, None, Ok, Err, codes, Result, ◌≢◌}
 use Rattle.std.specs.Option.{unwrap_or}
 use Rattle.console.specs.declared.options.Changes.{Changes}
 use Rattle.console.specs.declared.options.Options.{Options}

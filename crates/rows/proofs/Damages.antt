@@ -1,8 +1,8 @@
 -- Damage, from what was read so far.
-use Rattle.std.proofs.Common.{◌≡◌, ℕ, ◌+◌, ◌-◌, ◌<◌, ◌≤◌, ◌⊎◌, List, [], ◌∷◌, ◌++◌, length, get_or, take, drop, sym, refl, ap, ◌∙◌, subst, inl, inr, ⊎_elim, append_assoc, append-nil, arith, length-drop}
+use Rattle.std.proofs.Common.{◌≡◌, ℕ, ◌+◌, ◌-◌, ◌<◌, ◌≤◌, List, [], ◌++◌, length, get_or, take, drop, sym, refl, ap, ◌∙◌, subst, ⊎_elim, append_assoc, arith, length-drop}
 use Rattle.std.proofs.lemmas.List.{take-take, take_all, take_at, take-append-drop, take_rest, length-take, get_or_append_left, get_or-take}
 use Rattle.std.proofs.str.Laws.{order}
-use Rattle.rows.specs.Lines.{Viable, Longest}
+use Rattle.rows.specs.Lines.{Viable}
 use Rattle.rows.specs.Grammar.{Damaged, FieldAt, DamageAt}
 use Rattle.rows.proofs.Lists.{part, take_split}
 

@@ -1,9 +1,8 @@
 -- The fields of a line, one behind the other.
-use Rattle.std.proofs.Common.{◌≡◌, ℕ, ◌-◌, ◌<◌, List, [], ◌∷◌, ◌++◌, length, take, drop, ℤ, Option, refl, subst, arith, length-append}
+use Rattle.std.proofs.Common.{◌≡◌, ℕ, ◌-◌, ◌<◌, List, [], ◌∷◌, ◌++◌, length, drop, ℤ, Option, refl, arith, length-append}
 use Rattle.std.proofs.lemmas.List.{length-take}
 use Rattle.rows.specs.declared.types.Kind.{Kind}
 use Rattle.rows.specs.declared.types.Kind.TheVariants.{Value, Merge, Tombstone}
-use Rattle.rows.specs.Rows.{room}
 use Rattle.rows.specs.Grammar.{Lang, Then, FieldAt, DamageAt}
 use Rattle.rows.specs.Fields.{NumberField, KindField, TickField, KeyField, ValueField, FromKey, FromExpires, FromCreated, FromKind, Values, Line}
 use Rattle.rows.proofs.Chains.{Apart, then_apart, at_first, at_second, at_both}

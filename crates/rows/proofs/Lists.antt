@@ -1,5 +1,5 @@
 -- Two texts that are one: where a part of the first ends in the second.
-use Rattle.std.proofs.Common.{◌≡◌, ℕ, suc, ◌+◌, ◌-◌, ◌<◌, ◌≤◌, ◌⊎◌, List, [], ◌∷◌, ◌++◌, length, get_or, take, drop, sym, refl, ap, ◌∙◌, subst, inl, inr, add-zero, arith, length-append}
+use Rattle.std.proofs.Common.{◌≡◌, ℕ, suc, ◌+◌, ◌-◌, ◌<◌, ◌≤◌, ◌⊎◌, List, [], ◌∷◌, ◌++◌, length, get_or, take, drop, sym, refl, ap, ◌∙◌, inl, inr, add-zero, arith, length-append}
 use Rattle.std.proofs.lemmas.List.{take-take, take-append-drop, drop-take, drop-drop, drop_more, get_or-drop}
 
 -- xs ends before the last byte of ys ++ c, or right before it

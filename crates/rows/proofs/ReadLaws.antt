@@ -1,12 +1,12 @@
 -- A reader's step, from what is read of a line.
-use Rattle.std.proofs.Common.{◌≡◌, ℕ, ◌+◌, ◌-◌, ◌^◌, ◌<◌, ◌≤◌, Bool, true, false, cond, eqb, List, [], ◌∷◌, ◌++◌, length, get_or, take, drop, decimal, sym, refl, ap, ◌∙◌, subst, ⊎_elim, append_assoc, zero-add, arith, length-append, length-drop}
+use Rattle.std.proofs.Common.{◌≡◌, ℕ, ◌+◌, ◌-◌, ◌^◌, ◌<◌, ◌≤◌, eqb, List, [], ◌∷◌, ◌++◌, length, get_or, take, drop, decimal, sym, ap, ◌∙◌, subst, ⊎_elim, append_assoc, zero-add, arith, length-append, length-drop}
 use Rattle.std.proofs.lemmas.Fmt.{decimal_nonempty}
 use Rattle.std.proofs.lemmas.List.{take-append-drop, length-take, length-take-le, get_or_append_left}
 use Rattle.std.proofs.lemmas.Bool.{ne_eqb, cond_both, cond-false}
 use Rattle.std.proofs.str.Laws.{order}
 use Rattle.rows.specs.declared.types.Damage.{Damage}
 use Rattle.rows.specs.Rows.{Row, Valid}
-use Rattle.rows.specs.Lines.{line, TextOf, WellFormed, Longest, DamagedText, ends}
+use Rattle.rows.specs.Lines.{line, WellFormed, Longest, ends}
 use Rattle.rows.specs.Grammar.{Lang, FieldAt, DamageAt}
 use Rattle.rows.specs.Fields.{values, Line}
 use Rattle.rows.specs.Reading.{Handed, Reported}

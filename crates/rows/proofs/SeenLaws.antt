@@ -1,8 +1,8 @@
 -- Rows that were read from a place on.
-use Rattle.std.proofs.Common.{◌≡◌, ℕ, ◌+◌, ◌-◌, ◌*◌, ◌/◌, ◌<◌, ◌≤◌, Bool, true, List, [], ◌∷◌, ◌++◌, length, take, drop, ℤ, Some, None, Ok, Option, sym, refl, ap, ◌∙◌, subst, zero-add, arith, length-append, length-drop}
-use Rattle.std.proofs.lemmas.List.{take-append-drop, take_at, take_all, length-take-le}
+use Rattle.std.proofs.Common.{◌≡◌, ℕ, ◌+◌, ◌-◌, ◌*◌, ◌/◌, ◌≤◌, Bool, true, List, [], ◌∷◌, ◌++◌, length, take, drop, ℤ, Some, None, Ok, Option, sym, refl, ap, ◌∙◌, subst, zero-add, arith, length-append, length-drop}
+use Rattle.std.proofs.lemmas.List.{take_at, take_all, length-take-le}
 use Rattle.rows.specs.declared.found.Found.{Found}
-use Rattle.rows.specs.Rows.{Row, Valid}
+use Rattle.rows.specs.Rows.{Row}
 use Rattle.rows.specs.Lines.{line, TextOf}
 use Rattle.rows.specs.Sizes.{total, weight, size, tick_size}
 use Rattle.rows.specs.Spans.{Within, cut, spans, found_row}

@@ -1,16 +1,11 @@
 -- Texts of rows: lines one behind the other, and the damage of a text.
-use Rattle.std.proofs.Common.{◌≡◌, ℕ, ◌+◌, ◌-◌, ◌^◌, ◌<◌, ◌≤◌, Bool, true, cond, eqb, List, [], ◌∷◌, ◌++◌, map, length, get_or, take, drop, decimal, sym, refl, ap, ◌∙◌, subst, ⊎_elim, append_assoc, append-nil, arith, length-append}
+use Rattle.std.proofs.Common.{◌≡◌, ℕ, ◌+◌, ◌-◌, ◌<◌, List, [], ◌∷◌, ◌++◌, map, length, take, decimal, sym, refl, ap, ◌∙◌, subst, append_assoc, append-nil, arith, length-append}
 use Rattle.std.specs.List.{flat_map, AllByRecursion}
-use Rattle.std.proofs.lemmas.Fmt.{decimal_nonempty}
-use Rattle.std.proofs.lemmas.List.{take-append-drop, length-take, length-take-le, get_or_append_left, take_at, drop_at}
-use Rattle.std.proofs.lemmas.Bool.{ne_eqb}
-use Rattle.std.proofs.str.Laws.{order}
 use Rattle.rows.specs.Rows.{Row, Valid}
-use Rattle.rows.specs.Lines.{letter, tick, line, TextOf, WellFormed, Viable, Longest, ends}
-use Rattle.rows.specs.Grammar.{Lang, Then, Many, FieldAt, DamageAt}
+use Rattle.rows.specs.Lines.{letter, tick, line, TextOf, WellFormed, Longest}
+use Rattle.rows.specs.Grammar.{Lang, Many, DamageAt}
 use Rattle.rows.specs.Fields.{Values, values, Line}
-use Rattle.rows.proofs.Chains.{many_append, many_one, in_many}
-use Rattle.rows.proofs.DecimalLaws.{digit_of}
+use Rattle.rows.proofs.Chains.{in_many}
 use Rattle.rows.proofs.LineLaws.{line_apart}
 
 -- the line of a valid row is one of the grammar's

@@ -1,5 +1,5 @@
 -- Which block sizes are refused, and with what.
-use Rattle.std.specs.Prelude.{◌≡◌, ℕ, ◌<◌, ◌⊎◌, List, [], ◌∷◌, Ok, Err, Result}
+use Rattle.std.specs.Prelude.{◌≡◌, ℕ, ◌<◌, ◌⊎◌, Ok, Err, Result}
 use Rattle.rows.specs.declared.block.BlockSize.{BlockSize}
 use Rattle.rows.specs.declared.block.making.BadBlockSize.{BadBlockSize}
 

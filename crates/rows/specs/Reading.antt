@@ -1,5 +1,5 @@
 -- What the calls of a reader promise.
-use Rattle.std.specs.Prelude.{◌≡◌, ℕ, ◌+◌, ◌/◌, Bool, true, false, List, [], ◌∷◌, ◌++◌, length, take, drop, None, Ok, Err, Result}
+use Rattle.std.specs.Prelude.{◌≡◌, ℕ, ◌+◌, Bool, true, false, List, [], ◌++◌, length, take, drop, None, Ok, Err, Result}
 use Rattle.rows.specs.declared.types.Kind.TheVariants.{Tombstone}
 use Rattle.rows.specs.declared.types.Damage.{Damage}
 use Rattle.rows.specs.declared.reader.Reader.{Reader}

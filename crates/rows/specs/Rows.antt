@@ -1,5 +1,5 @@
 -- What a row is.
-use Rattle.std.specs.Prelude.{◌≡◌, ℕ, ◌%◌, ◌^◌, ◌<◌, ◌≤◌, Bool, true, ◌&&◌, ◌||◌, List, [], ◌∷◌, length, ℤ, Some, None, Option, nat_le, nat_lt, slice_index}
+use Rattle.std.specs.Prelude.{◌≡◌, ℕ, ◌%◌, ◌^◌, ◌<◌, ◌≤◌, Bool, true, ◌&&◌, ◌||◌, List, [], length, ℤ, Some, None, Option, nat_le, nat_lt, slice_index}
 use Rattle.std.specs.Int.Signed.{mag}
 use Rattle.rows.specs.declared.types.Kind.{Kind}
 use Rattle.rows.specs.declared.types.Kind.TheVariants.{Value as KValue, Merge as KMerge, Tombstone as KTombstone}

@@ -1,7 +1,7 @@
 -- A text parted at its first mark.
-use Rattle.std.proofs.Common.{◌≡◌, ℕ, ◌+◌, ◌-◌, ◌<◌, ◌≤◌, List, [], ◌∷◌, ◌++◌, length, get_or, take, drop, Some, None, sym, ap, ◌∙◌, subst, append-nil, arith}
+use Rattle.std.proofs.Common.{◌≡◌, ℕ, ◌+◌, ◌-◌, ◌<◌, List, [], ◌∷◌, ◌++◌, length, get_or, take, drop, Some, sym, ap, ◌∙◌, arith}
 use Rattle.std.proofs.lemmas.List.{append_assoc, drop_more, get_or-drop, get_or-take, length-drop, length-take-le, take-append-drop, take_rest}
-use Rattle.script.specs.Parts.{Ends, Free, Parts}
+use Rattle.script.specs.Parts.{Ends, Parts}
 
 -- at the first mark
 pub parts_at : (mark : ℕ) (text : List ℕ) (i : ℕ) → i < length text → get_or text i 0 ≡ mark → ((k : ℕ) → k < i → get_or text k 0 ≡ mark → ⊥) → Parts mark text (take (i - 0) text) (Some (take (length text - (i + 1)) (drop (i + 1) text)))

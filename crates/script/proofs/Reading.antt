@@ -1,8 +1,8 @@
 -- The lines that a script's reader takes, one after another.
-use Rattle.std.proofs.Common.{◌≡◌, ℕ, suc, ◌+◌, ◌-◌, ◌<◌, ◌≤◌, Bool, true, false, cond, ◌⊎◌, List, [], ◌∷◌, ◌++◌, length, take, drop, sym, refl, ap, ◌∙◌, subst, inl, inr, ⊎_elim, append_assoc, append-nil, add-one, arith}
+use Rattle.std.proofs.Common.{◌≡◌, ℕ, ◌+◌, ◌-◌, ◌<◌, ◌≤◌, true, false, ◌⊎◌, List, [], ◌∷◌, ◌++◌, length, take, drop, sym, refl, ap, ◌∙◌, subst, inl, inr, ⊎_elim, append_assoc, append-nil, add-one, arith}
 use Rattle.std.proofs.lemmas.List.{length-append, length_push, take_at}
 use Rattle.script.specs.declared.script.Script.{Script}
-use Rattle.script.specs.Lines.{Line, Plain, Stop, ended, idle, idles, lines}
+use Rattle.script.specs.Lines.{Line, Plain, Stop, ended, idle, idles}
 use Rattle.script.specs.Scripts.{Body, left, line, rest}
 use Rattle.script.proofs.Lining.{lines_first}
 

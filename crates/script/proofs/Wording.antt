@@ -1,10 +1,10 @@
 -- The words of a line, one after another.
-use Rattle.std.proofs.Common.{◌≡◌, ℕ, zero, suc, ◌+◌, ◌<◌, ◌≤◌, Bool, true, false, cond, eqb, ◌⊎◌, List, [], ◌∷◌, ◌++◌, length, get_or, Some, None, Option, sym, refl, ap, ◌∙◌, subst, inl, inr, append-nil, arith, rules}
+use Rattle.std.proofs.Common.{◌≡◌, ℕ, zero, suc, ◌+◌, ◌<◌, true, false, cond, eqb, ◌⊎◌, List, [], ◌∷◌, ◌++◌, length, Some, None, Option, sym, refl, ap, ◌∙◌, subst, inl, inr, append-nil, arith, rules}
 use Rattle.std.proofs.lemmas.List.{length-append}
 use Rattle.std.proofs.lemmas.Bool.{both_ways, cases_Bool, eq-eqb, eqb-true}
 use Rattle.script.specs.Lines.{begun}
 use Rattle.script.specs.Parts.{Free, Parts}
-use Rattle.script.specs.Words.{Spaceless, Worded, more, others, spaced, words}
+use Rattle.script.specs.Words.{Spaceless, Worded, others, spaced, words}
 
 -- the bytes and the end of a line of which there may be nothing more
 abbrev pub extent : Option (List ℕ) → ℕ

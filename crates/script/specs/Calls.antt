@@ -1,5 +1,5 @@
 -- The calls of a script.
-use Rattle.std.specs.Prelude.{◌≡◌, ℕ, ◌<◌, List, [], ◌∷◌, ◌++◌, length, Some, None, Ok, Err, codes, Option, Result, ◌≢◌}
+use Rattle.std.specs.Prelude.{◌≡◌, ℕ, ◌<◌, List, [], ◌++◌, length, Some, None, Ok, Err, codes, Option, Result, ◌≢◌}
 use Rattle.script.specs.declared.call.Last.{Last}
 use Rattle.script.specs.declared.call.Last.TheVariants.{Here, Digits, Word}
 use Rattle.script.specs.declared.call.Call.{Call}

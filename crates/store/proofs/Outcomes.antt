@@ -1,13 +1,12 @@
 -- The outcomes of a store's calls.
-use Rattle.std.proofs.Common.{◌≡◌, ℕ, ◌+◌, ◌-◌, ◌≤◌, Bool, true, false, cond, eqb, ltb, ◌⊎◌, List, [], ◌∷◌, length, get_or, is_some, Some, None, Ok, Err, Option, Result, sym, refl, ap, ◌∙◌, inl, inr, ⊎_elim, arith, rules}
-use Rattle.std.proofs.lemmas.Bool.{cases_Bool}
+use Rattle.std.proofs.Common.{◌≡◌, ℕ, Bool, true, cond, eqb, List, get_or, Ok, Err, Result, sym, refl, ap, ◌∙◌, ⊎_elim, arith, rules}
 use Rattle.store.specs.declared.fault.StoreFault.{StoreFault}
 use Rattle.store.specs.declared.fault.StoreFault.TheVariants.{Exists, Missing, NoRoom, TooLong, Short, Unavailable}
 use Rattle.causes.specs.Said.{Said}
-use Rattle.store.specs.Said.{fault, said, said_length}
+use Rattle.store.specs.Said.{said, said_length}
 use Rattle.store.specs.Meaning.{Meaning, Held}
-use Rattle.store.specs.Calls.{put_says, put_leaves, Put, Head, Read, OwnFault}
-use Rattle.store.specs.Laws.{OnePut, OneHead, OneRead, Created, GrantedPutsCreate, FilesStay, RefusedPutsLeave}
+use Rattle.store.specs.Calls.{put_says, put_leaves, Put, OwnFault}
+use Rattle.store.specs.Laws.{OnePut, OneHead, OneRead, GrantedPutsCreate, FilesStay, RefusedPutsLeave}
 
 -- the fault of a number and its value
 fault_of : ℕ → ℕ → StoreFault

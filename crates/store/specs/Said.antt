@@ -1,5 +1,5 @@
 -- What the answers of a store say, by the numbers of their causes.
-use Rattle.std.specs.Prelude.{ℕ, List, [], ◌∷◌, Ok, Err, Result}
+use Rattle.std.specs.Prelude.{ℕ, [], ◌∷◌, Ok, Err, Result}
 use Rattle.causes.specs.Said.{Said, refused, granted}
 use Rattle.store.specs.declared.fault.StoreFault.{StoreFault}
 use Rattle.store.specs.declared.fault.StoreFault.TheVariants.{Exists, Missing, NoRoom, TooLong, Short, Unavailable}

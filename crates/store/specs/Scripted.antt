@@ -4,7 +4,7 @@ use Rattle.store.specs.declared.fault.StoreFault.{StoreFault}
 use Rattle.store.specs.declared.marks.Mark.{Mark}
 use Rattle.store.specs.declared.marks.Mark.TheVariants.{Fair, Lost, Late}
 use Rattle.store.specs.declared.script.FaultScript.{FaultScript}
-use Rattle.causes.specs.Said.{Said, refused}
+use Rattle.causes.specs.Said.{refused}
 use Rattle.store.specs.Said.{said, said_length}
 use Rattle.store.specs.Meaning.{Meaning}
 use Rattle.store.specs.Calls.{Put, Head, Read}

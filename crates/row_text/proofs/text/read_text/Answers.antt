@@ -1,4 +1,4 @@
-use Rattle.std.proofs.Common.{◌≡◌, ◌+◌, ◌≤◌, length, drop, Ok, sym, refl, ap, ◌∙◌, subst, arith}
+use Rattle.std.proofs.Common.{◌≡◌, ◌+◌, ◌≤◌, length, Ok, sym, ap, ◌∙◌, subst, arith}
 use Rattle.rows.specs.Lines.{line}
 use Rattle.rows.specs.Reading.{Advances, row_under}
 use Rattle.rows.specs.Sizes.{size}

@@ -1,4 +1,4 @@
-use Rattle.std.proofs.Common.{◌≡◌, ◌+◌, ◌-◌, ◌*◌, ◌≤◌, length}
+use Rattle.std.proofs.Common.{◌≡◌, ◌-◌, ◌*◌, ◌≤◌, length}
 use Rattle.rows.specs.Sizes.{size}
 use Rattle.rows.proofs.SeenLaws.{Seen}
 use Rattle.row_text.proofs.text.read_text.Given as goal

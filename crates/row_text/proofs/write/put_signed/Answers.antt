@@ -1,4 +1,4 @@
-use Rattle.std.proofs.Common.{◌≡◌, ◌≤◌, Bool, [], ◌∷◌, length, ℤ, pos, nat_abs, decimal, sym, refl, ap, ◌∙◌, subst, arith, to_z-of_z, w64, to_z, of_z}
+use Rattle.std.proofs.Common.{◌≡◌, ◌∷◌, length, pos, nat_abs, decimal, sym, ap, ◌∙◌, subst, arith, to_z-of_z, w64, to_z, of_z}
 use lib.Signed.{lt_z}
 use Rattle.std.specs.Fmt.{signed_decimal}
 use Rattle.row_text.specs.Writing.{Appends}

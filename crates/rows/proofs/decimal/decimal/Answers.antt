@@ -1,4 +1,4 @@
-use Rattle.std.proofs.Common.{◌≡◌, length, take, sym, subst, arith}
+use Rattle.std.proofs.Common.{◌≡◌, length, sym, subst, arith}
 use Rattle.rows.specs.Grammar.{Damaged, Lang}
 use Rattle.rows.specs.Fields.{Decimal}
 use Rattle.rows.proofs.DecimalLaws.{SoFar, begins, stuck, step, done}

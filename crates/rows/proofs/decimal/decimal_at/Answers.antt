@@ -1,4 +1,3 @@
-use Rattle.std.proofs.Common.{arith}
 use Rattle.rows.specs.Grammar.{Lang}
 use Rattle.rows.specs.Fields.{Decimal}
 use Rattle.rows.proofs.Damages.{field_here, damage_here}

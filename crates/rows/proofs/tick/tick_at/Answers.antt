@@ -1,4 +1,4 @@
-use Rattle.std.proofs.Common.{◌≡◌, ◌^◌, ◌<◌, ℤ, pos, negsuc, Some, sym, ap, ◌∙◌, subst, arith, to_z-of_z, w64, to_z, of_z}
+use Rattle.std.proofs.Common.{◌≡◌, ◌^◌, ◌<◌, ℤ, pos, Some, sym, ap, ◌∙◌, subst, arith, to_z-of_z, w64, to_z, of_z}
 use lib.Signed.{mag}
 use Rattle.std.proofs.lemmas.Result.{err_from_is_err_and}
 use Rattle.rows.specs.Grammar.{FieldAt}

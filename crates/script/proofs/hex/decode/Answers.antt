@@ -1,6 +1,6 @@
-use Rattle.std.proofs.Common.{◌≡◌, ◌+◌, ◌-◌, ◌*◌, ◌/◌, ◌%◌, ◌<◌, ◌≤◌, length, get_or, take, sym, ap, ◌∙◌, arith, rules}
+use Rattle.std.proofs.Common.{◌+◌, ◌*◌, ◌<◌, length, ap, ◌∙◌, arith, rules}
 use Rattle.std.proofs.lemmas.List.{take_all}
-use Rattle.script.specs.Hexadecimal.{digit, pairs}
+use Rattle.script.specs.Hexadecimal.{pairs}
 use Rattle.script.proofs.Pairs.{pairs_more}
 use Rattle.script.proofs.hex.decode.Goals as goal
 

@@ -1,4 +1,4 @@
-use Rattle.std.proofs.Common.{◌≡◌, ◌+◌, ◌*◌, ◌≤◌, take, vec_items, vec_len, vec_capacity}
+use Rattle.std.proofs.Common.{◌≡◌, ◌*◌, ◌≤◌, take, vec_items, vec_len, vec_capacity}
 use Rattle.script.specs.Hexadecimal.{pairs}
 use Rattle.script.proofs.hex.decode.Given as goal
 

@@ -1,4 +1,4 @@
-use Rattle.std.proofs.Common.{ℕ, ◌+◌, ◌-◌, ◌/◌, ◌<◌, ◌≤◌, length, arith}
+use Rattle.std.proofs.Common.{ℕ, ◌+◌, ◌-◌, ◌/◌, ◌<◌, ◌≤◌, arith}
 use Rattle.store.specs.Index.{none}
 use Rattle.store.proofs.Searching.{present, smaller_so_far, greater_from_here, absent}
 use Rattle.store.proofs.index.locate.Goals as goal

@@ -1,4 +1,4 @@
-use Rattle.std.proofs.Common.{◌≡◌, length, sym, refl, ap, ◌∙◌, arith}
+use Rattle.std.proofs.Common.{◌≡◌, length, refl, arith}
 use Rattle.rows.proofs.ReadLaws.{handed, read_back, back_damaged, back_end, reported, few_ends}
 use Rattle.rows.proofs.reader.Reader.advance.Goals as goal
 

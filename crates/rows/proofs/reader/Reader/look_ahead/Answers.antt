@@ -1,9 +1,9 @@
-use Rattle.std.proofs.Common.{◌≡◌, ◌+◌, ◌++◌, sym, refl, ap, ◌∙◌, subst, arith}
+use Rattle.std.proofs.Common.{◌≡◌, ◌+◌, ◌++◌, sym, refl, ◌∙◌, subst, arith}
 use Rattle.rows.specs.Sizes.{weight}
 use Rattle.rows.specs.Spans.{found_row}
 use Rattle.rows.proofs.LineLaws.{line_some}
 use Rattle.rows.proofs.ReadLaws.{handed, reported, few_ends}
-use Rattle.rows.proofs.SeenLaws.{Seen, seen_none, seen_more, seen_all, seen_end, cut_length, weight_le}
+use Rattle.rows.proofs.SeenLaws.{Seen, seen_more, seen_all, seen_end, cut_length, weight_le}
 use Rattle.rows.proofs.reader.Reader.look_ahead.Goals as goal
 
 pub loop-guard-smaller : goal.loop-guard-smaller

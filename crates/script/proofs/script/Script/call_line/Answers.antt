@@ -1,4 +1,4 @@
-use Rattle.std.proofs.Common.{◌≡◌, sym, refl, ◌∙◌, arith, rules}
+use Rattle.std.proofs.Common.{sym, refl, ◌∙◌, arith, rules}
 use Rattle.script.proofs.Lining.{line_shorter, lines_first}
 use Rattle.script.proofs.Reading.{found, passed}
 use Rattle.script.proofs.script.Script.call_line.Goals as goal

@@ -1,4 +1,4 @@
-use Rattle.std.proofs.Common.{◌≡◌, arith, rules}
+use Rattle.std.proofs.Common.{arith, rules}
 use Rattle.script.proofs.Lining.{line_shorter}
 use Rattle.script.proofs.Reading.{body_none, body_more, body_ends, body_within}
 use Rattle.script.proofs.script.Script.text.Goals as goal

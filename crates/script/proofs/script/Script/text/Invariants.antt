@@ -1,4 +1,4 @@
-use Rattle.std.proofs.Common.{◌≡◌, length}
+use Rattle.std.proofs.Common.{length}
 use Rattle.script.specs.Scripts.{rest}
 use Rattle.script.proofs.Reading.{Begun}
 use Rattle.script.proofs.script.Script.text.Given as goal

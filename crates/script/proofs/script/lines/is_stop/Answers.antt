@@ -1,4 +1,4 @@
-use Rattle.std.proofs.Common.{◌≡◌, ℕ, List, length, get_or, ap, arith, rules}
+use Rattle.std.proofs.Common.{◌≡◌, ℕ, List, get_or, ap, rules}
 use Rattle.script.proofs.Lining.{lone}
 use Rattle.script.proofs.script.lines.is_stop.Goals as goal
 
