@@ -1,5 +1,5 @@
 -- What the answers of a table say, by the numbers of their causes.
-use Rattle.std.specs.Prelude.{ℕ, List, [], ◌∷◌, Ok, Err, Result}
+use Rattle.std.specs.Prelude.{[], ◌∷◌, Ok, Err, Result}
 use Rattle.causes.specs.Said.{Said, refused, granted}
 use Rattle.mem_table.specs.declared.fault.TableFault.{TableFault}
 use Rattle.mem_table.specs.declared.fault.TableFault.TheVariants.{NoRoom}

@@ -1,8 +1,9 @@
 -- The order of keys with numbers is strict and total.
 use Rattle.std.proofs.Common.{◌≡◌, ℕ, ◌<◌, true, false, ltb, ◌⊎◌, List, [], ◌∷◌, Ordering, Less, Equal, Greater, sym, refl, ap, ◌∙◌, subst, inl, inr, arith}
-use Rattle.std.specs.Cmp.Lexicographic.{Lex}
-use Rattle.std.specs.Ordering.{MatchOrdering}
-use Rattle.std.proofs.lemmas.Bool.{cases_Bool, ltb-true, lt-ltb, both_ways}
+use Rattle.std.specs.Ordering.{MatchOrdering, nat_cmp, ordering_then}
+use Rattle.std.specs.Cmp.Lexicographic.{slice_cmp}
+use Rattle.std.proofs.lemmas.Cmp.{ranked}
+use Rattle.std.proofs.lemmas.Bool.{ltb-true, lt-ltb, both_ways}
 use Rattle.mem_table.specs.Order.{below}
 use Rattle.mem_table.proofs.Keys.{less, level, below_self, below_trans, below_anti, compared}
 use Rattle.tables.specs.Ranks.{ahead}
@@ -58,16 +59,22 @@ ahead_keys a b x y p = elim (since a b x y p) [ inl l ↦ below_anti a b l | inr
 abbrev pub Says : List ℕ → List ℕ → Ordering → Type 0
 Says a b o = MatchOrdering o (below a b ≡ true) (a ≡ b) (below b a ≡ true)
 
-pub from_lex : (a b : List ℕ) (o : Ordering) → Lex (λ x y k. MatchOrdering k (x < y) (x ≡ y) (y < x)) a b o → Says a b o
-from_lex [] [] o h = subst (Says [] []) (sym h) refl
-from_lex [] (y ∷ b) o h = subst (Says [] (y ∷ b)) (sym h) refl
-from_lex (x ∷ a) [] o h = subst (Says (x ∷ a) []) (sym h) refl
-from_lex (x ∷ a) (y ∷ b) o (Less, l, e) = subst (Says (x ∷ a) (y ∷ b)) (sym e) (less x y a b l)
-from_lex (x ∷ a) (y ∷ b) o (Greater, l, e) = subst (Says (x ∷ a) (y ∷ b)) (sym e) (less y x b a l)
-from_lex (x ∷ a) (y ∷ b) o (Equal, l, e) =
-    let Q : Ordering → Type 0 = λ k. Says a b k → Says (x ∷ a) (y ∷ b) k in
-    let up : (k : Ordering) → Q k = λ k. elim k as Q [ Less ↦ λ h. level x y a b l ∙ h | Equal ↦ λ h. (cc) | Greater ↦ λ h. level y x b a (sym l) ∙ h ] in
-    up o (from_lex a b o e)
+-- the first digits decide, and the rest where they are equal
+behind : (x y : ℕ) (a b : List ℕ) (k rest : Ordering) → MatchOrdering k (x < y) (x ≡ y) (y < x) → Says a b rest → Says (x ∷ a) (y ∷ b) (ordering_then k rest)
+behind x y a b Less rest l h = less x y a b l
+behind x y a b Greater rest l h = less y x b a l
+behind x y a b Equal Less e h = level x y a b e ∙ h
+behind x y a b Equal Equal e h = (cc)
+behind x y a b Equal Greater e h = level y x b a (sym e) ∙ h
+
+says : (a b : List ℕ) → Says a b (slice_cmp nat_cmp a b)
+says [] [] = refl
+says [] (y ∷ b) = refl
+says (x ∷ a) [] = refl
+says (x ∷ a) (y ∷ b) = behind x y a b (nat_cmp x y) (slice_cmp nat_cmp a b) (ranked x y (nat_cmp x y) refl) (says a b)
+
+pub from_cmp : (a b : List ℕ) (o : Ordering) → o ≡ slice_cmp nat_cmp a b → Says a b o
+from_cmp a b o e = subst (Says a b) (sym e) (says a b)
 
 -- of equal keys the numbers decide
 pub numbered : (k l : List ℕ) (m n : ℕ) (o : Ordering) → k ≡ l → MatchOrdering o (n < m) (n ≡ m) (m < n) → MatchOrdering o (ahead k m l n ≡ true) ((k ≡ l) × (m ≡ n)) (ahead l n k m ≡ true)

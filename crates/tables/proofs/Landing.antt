@@ -4,14 +4,14 @@ use Rattle.std.specs.List.{insert}
 use Rattle.rows.specs.declared.entry.RowEntry.{RowEntry}
 use Rattle.rows.specs.Entries.{row_of}
 use Rattle.rows.specs.Rows.{Row}
-use Rattle.rows.specs.Sizes.{weight, size, total}
+use Rattle.rows.specs.Sizes.{weight, size}
 use Rattle.tables.specs.declared.shelf.Shelf.{Shelf}
 use Rattle.tables.specs.declared.slot.Slot.{Slot}
 use Rattle.mem_table.specs.Calls.{lacks}
 use Rattle.mem_table.specs.Meaning.{Held, lookup, added}
 use Rattle.mem_table.specs.Order.{no_row}
-use Rattle.tables.specs.Ranks.{Ascending, At, Between}
-use Rattle.tables.specs.Slots.{no_slot, row_at, standing, Placed, Marked, Keyed, Valued, Lies, Digits, Each, Inside, Kept}
+use Rattle.tables.specs.Ranks.{At, Between}
+use Rattle.tables.specs.Slots.{no_slot, row_at, standing, Lies, Kept}
 use Rattle.tables.specs.Shelves.{holds, order_of, rows_of}
 use Rattle.tables.proofs.Placing.{After, after_insert, after_supersede, after_overwrite}
 use Rattle.mem_table.proofs.Room.{has_room}
@@ -24,15 +24,6 @@ use Rattle.std.proofs.lemmas.List.{map-append}
 pub record Landed (s : Shelf) (r : Row) (text : List ℕ) (slots : List Slot) (ranks : List ℕ) (puts bytes sum : ℕ) : Type 0 where
   pub kept : Kept text slots ranks puts bytes sum
   pub held : ◌≡◌ {A = Held} (record { rows = lookup (standing text slots ranks); puts = puts; bytes = bytes }) (added (holds s) r)
-
--- the facts that a shelf keeps, one by one
-pub facts : (text : List ℕ) (slots : List Slot) (ranks : List ℕ) (puts bytes sum : ℕ) → Kept text slots ranks puts bytes sum
-    → (length slots + puts ≤ 65536) × ((length text + 2 * bytes ≤ 33554432) × ((length ranks ≤ length slots) × (Inside ranks (length slots) × (Digits text × (Each (Placed (length text)) slots × (Each Marked slots
-    × (Each Keyed slots × (Each Valued slots × (Ascending (standing text slots ranks) × ((2 * total weight (standing text slots ranks) ≤ length text) × ((sum ≡ total size (standing text slots ranks)) × Unit {0})))))))))))
-facts text slots ranks puts bytes sum k = (
-  k.counted,
-  (k.limited, (k.fewer, (k.inside, (k.digits, (λ i l. (k.sound i l).placed, (λ i l. (k.sound i l).marked, (λ i l. (k.sound i l).keyed, (λ i l. (k.sound i l).valued, (k.ordered, (k.weighed, (k.sized, tt))))))))))),
-)
 
 -- the text has room for the bytes that are left
 pub spare_left : (s : Shelf) (e : RowEntry) → lacks (holds s) (row_of e) ≡ false → (text : List ℕ) (n cap bytes : ℕ) → n ≡ length text → text ≡ vec_items s.text ++ ((row_of e).key ++ (row_of e).value)

@@ -1,9 +1,9 @@
 -- A row put among those that stand.
-use Rattle.std.proofs.Common.{◌≡◌, ℕ, ◌+◌, ◌-◌, ◌*◌, ◌<◌, ◌≤◌, false, ltb, List, [], ◌∷◌, ◌++◌, length, get_or, set, sym, refl, ap, ◌∙◌, subst, inl, inr, arith, length-append, length-set}
+use Rattle.std.proofs.Common.{◌≡◌, ℕ, ◌+◌, ◌-◌, ◌*◌, ◌<◌, ◌≤◌, List, [], ◌∷◌, ◌++◌, length, get_or, set, sym, refl, ap, ◌∙◌, subst, inl, inr, arith, length-append, length-set}
 use Rattle.std.specs.List.{insert}
 use Rattle.std.proofs.lemmas.List.{same_lists, map-set, get_or-set_same, get_or-set_other, get_or_append_left, get_or_push, get_or_default}
 use Rattle.std.proofs.lemmas.List.Edits.{length-insert}
-use Rattle.std.proofs.lemmas.Bool.{cases_eq, cases_order, or_parts, ltb-false}
+use Rattle.std.proofs.lemmas.Bool.{cases_eq, cases_order}
 use Rattle.rows.specs.declared.entry.RowEntry.{RowEntry}
 use Rattle.rows.specs.Entries.{row_of}
 use Rattle.rows.specs.Rows.{Row}
@@ -11,8 +11,7 @@ use Rattle.rows.specs.Sizes.{weight, size, total}
 use Rattle.tables.specs.declared.slot.Slot.{Slot}
 use Rattle.mem_table.specs.Order.{no_row}
 use Rattle.tables.specs.Ranks.{At, Between}
-use Rattle.mem_table.specs.Meaning.{Held, lookup, with_row}
-use Rattle.mem_table.specs.Calls.{lacks}
+use Rattle.mem_table.specs.Meaning.{lookup, with_row}
 use Rattle.tables.specs.Slots.{no_slot, row_at, standing, Lies, Digits, Each, Inside, Kept}
 use Rattle.tables.proofs.Members.{map_same, map_inserted, each_set, each_push, inside_set, inside_inserted, inside_more, lies_more}
 use Rattle.tables.proofs.Ordered.{Laid, apart, laid_over, laid_between}

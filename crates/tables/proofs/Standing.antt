@@ -1,5 +1,5 @@
 -- The rows that stand, as slots come in.
-use Rattle.std.proofs.Common.{◌≡◌, ℕ, ◌-◌, ◌<◌, List, length, get_or}
+use Rattle.std.proofs.Common.{◌≡◌, ℕ, ◌<◌, List, length, get_or}
 use Rattle.std.proofs.lemmas.List.{length-map, get_or-map}
 use Rattle.tables.specs.declared.slot.Slot.{Slot}
 use Rattle.mem_table.specs.Order.{no_row}

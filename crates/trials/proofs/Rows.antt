@@ -1,9 +1,8 @@
 -- Why the examples hold.
-use Rattle.std.proofs.Common.{◌≡◌, ℕ, zero, suc, ◌+◌, ◌<◌, ◌≤◌, true, List, [], ◌∷◌, ◌++◌, length, get_or, None, decimal, sym, refl, ap, ◌∙◌, arith}
+use Rattle.std.proofs.Common.{◌≡◌, ℕ, zero, suc, ◌<◌, true, [], ◌∷◌, ◌++◌, get_or, None, decimal, sym, refl, ap, ◌∙◌, arith}
 use Rattle.std.proofs.lemmas.Fmt.{decimal_digit, decimal_step}
 use Rattle.rows.specs.declared.types.Kind.TheVariants.{Tombstone}
-use Rattle.rows.specs.Rows.{Row, Hex, hex_digit}
-use Rattle.rows.specs.Lines.{TextOf, ends}
+use Rattle.rows.specs.Rows.{hex_digit}
 use Rattle.rows.specs.Grammar.{Lang, FieldAt, DamageAt}
 use Rattle.rows.specs.Fields.{NumberField, KindField, TickField, KeyField, ValueField}
 use Rattle.rows.proofs.HexLaws.{stuck}

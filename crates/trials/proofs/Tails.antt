@@ -2,7 +2,7 @@
 use Rattle.std.proofs.Common.{◌≡◌, ℕ, suc, ◌+◌, ◌*◌, ◌^◌, ◌<◌, ◌≤◌, true, false, ltb, [], ◌∷◌, is_some, ap, ◌∙◌, arith}
 use Rattle.std.proofs.lemmas.Bool.{lt-ltb, le-ltb}
 use Rattle.causes.specs.Said.{granted}
-use Rattle.wal.specs.Probes.{calls, digits}
+use Rattle.wal.specs.Probes.{calls}
 use Rattle.wal.specs.Tails.{tail_says}
 use Rattle.wal.proofs.Digits.{digits_is}
 use Rattle.wal.proofs.Tailing.{run_says}

@@ -1,6 +1,6 @@
 -- Examples of rows, their sizes and their lines.
 use Rattle.std.specs.Prelude.{◌≡◌, ℕ, List, [], ◌∷◌, pos, Some, None}
-use Rattle.rows.specs.declared.types.Kind.TheVariants.{Value, Tombstone}
+use Rattle.rows.specs.declared.types.Kind.TheVariants.{Value}
 use Rattle.rows.specs.Rows.{Row, Valid}
 use Rattle.rows.specs.Lines.{line, DamagedText}
 use Rattle.rows.specs.Sizes.{size, wal_size, compacted_size}

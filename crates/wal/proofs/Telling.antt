@@ -4,7 +4,7 @@ use Rattle.causes.specs.Said.{Said}
 use Rattle.store.specs.declared.fault.StoreFault.TheVariants.{Exists, Missing, NoRoom, TooLong, Short, Unavailable}
 use Rattle.wal.specs.declared.fault.WalFault.{WalFault}
 use Rattle.wal.specs.declared.fault.WalFault.TheVariants.{Store, Fenced, WalTruncated, Closed, DataError, InternalError, InvalidSSTBatchSize, InvalidDBState, IdsSpent, Attempts, OutOfOrder, WriterFull, Busy, TicketsSpent, NotReplayed, BlockSize}
-use Rattle.wal.specs.Said.{fault, said_pair}
+use Rattle.wal.specs.Said.{said_pair}
 use Rattle.wal.specs.Laws.{ToldApart}
 
 -- the fault of a number and its values

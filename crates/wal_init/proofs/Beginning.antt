@@ -1,7 +1,7 @@
 -- A fence that is put after the id to begin at was asked for.
-use Rattle.std.proofs.Common.{◌≡◌, ℕ, Bool, true, false, cond, eqb, ◌⊎◌, List, [], ◌∷◌, Err, sym, refl, ap, ◌∙◌, subst, inl, inr, ⊎_elim, arith}
+use Rattle.std.proofs.Common.{◌≡◌, ℕ, true, false, cond, eqb, ◌⊎◌, [], ◌∷◌, Err, sym, ap, ◌∙◌, subst, inl, inr, ⊎_elim, arith}
 use Rattle.std.proofs.lemmas.Bool.{cases_Bool, both_ways}
-use Rattle.causes.specs.Said.{Said, refused, granted}
+use Rattle.causes.specs.Said.{Said, granted}
 use Rattle.store.specs.Meaning.{Held, Meaning}
 use Rattle.store.specs.Calls.{OwnFault, put_leaves}
 use Rattle.wal.specs.declared.fault.WalFault.{WalFault}
@@ -9,7 +9,7 @@ use Rattle.wal.specs.Said.{fault}
 use Rattle.wal_init.specs.declared.record.ManifestRecord.{ManifestRecord}
 use Rattle.wal_init.specs.declared.record.Options.{Options}
 use Rattle.wal_init.specs.Fences.{Tried, Stops, fence_says, Fenced}
-use Rattle.wal_init.specs.WriterInit.{first_says, begin_says, start_says, Begins, Begun, Opened}
+use Rattle.wal_init.specs.WriterInit.{first_says, begin_says, Begins, Begun, Opened}
 
 abbrev pub number_of : Said → ℕ
 number_of s = s.number

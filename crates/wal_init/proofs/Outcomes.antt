@@ -1,7 +1,7 @@
 -- The outcomes of an opening.
-use Rattle.std.proofs.Common.{◌≡◌, ℕ, ◌<◌, Bool, true, false, eqb, ◌⊎◌, List, [], ◌∷◌, get_or, is_some, None, Ok, Err, Result, sym, refl, ap, ◌∙◌, subst, ⊎_elim, arith}
+use Rattle.std.proofs.Common.{◌≡◌, ℕ, ◌<◌, Bool, true, false, eqb, ◌⊎◌, [], ◌∷◌, get_or, is_some, None, Ok, Err, Result, sym, refl, ap, ◌∙◌, subst, ⊎_elim, arith}
 use Rattle.std.proofs.lemmas.Bool.{cases_order, both_ways}
-use Rattle.causes.specs.Said.{Said, refused, granted}
+use Rattle.causes.specs.Said.{Said, granted}
 use Rattle.store.specs.Meaning.{Held, Meaning}
 use Rattle.store.specs.Calls.{put_leaves}
 use Rattle.wal.specs.declared.fault.WalFault.{WalFault}
@@ -14,8 +14,7 @@ use Rattle.wal_init.specs.declared.record.Options.{Options}
 use Rattle.wal_init.specs.declared.grant.Grant.{Grant}
 use Rattle.wal_init.specs.Fences.{reach, Tried, Stops, fence_says}
 use Rattle.wal_init.specs.Fences as fences
-use Rattle.wal_init.specs.WriterInit.{said_grant, start_says, TurnedAway, Begun, Carries, Opened}
-use Rattle.wal_init.specs.Opening.{opened}
+use Rattle.wal_init.specs.WriterInit.{said_grant, start_says, TurnedAway, Begun, Carries}
 use Rattle.wal_init.specs.Laws.{Alike, OneOpening}
 
 -- two truth values that are not one

@@ -1,5 +1,5 @@
 -- An event at a slot of a window.
-use Rattle.std.proofs.Common.{◌≡◌, ℕ, ◌+◌, ◌<◌, Bool, true, false, ◌&&◌, ltb, List, get_or, set, Ok, Err, Result, sym, refl, ap, ◌∙◌, subst, arith}
+use Rattle.std.proofs.Common.{◌≡◌, ℕ, ◌+◌, ◌<◌, Bool, ◌&&◌, List, set, Result, sym, refl, ap, ◌∙◌, subst}
 use lib.Seq.{set-get_or}
 use Rattle.std.proofs.lemmas.Bool.{lt-ltb}
 use Rattle.store.specs.declared.fault.StoreFault.{StoreFault}
@@ -7,9 +7,9 @@ use Rattle.store.specs.Meaning.{Meaning}
 use Rattle.wal_init.specs.declared.slot.Slot.{Slot}
 use Rattle.wal_init.specs.declared.slot.SlotState.{SlotState}
 use Rattle.wal_init.specs.declared.slot.SlotState.TheVariants.{Waiting, Arrived, Refused}
-use Rattle.wal_init.specs.declared.slot.Event.TheVariants.{Arrival, Taking}
+use Rattle.wal_init.specs.declared.slot.Event.TheVariants.{Arrival}
 use Rattle.wal_init.specs.Slots.{is_waiting, keeps, free, Meets}
-use Rattle.wal_init.specs.Windows.{Windowed, open_slots, slot_at, unasked, with_answer, Asks, Arrives}
+use Rattle.wal_init.specs.Windows.{Windowed, open_slots, slot_at, Asks, Arrives}
 
 abbrev slot_of : SlotState → Slot
 slot_of st = record { state = st }

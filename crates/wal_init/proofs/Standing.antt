@@ -1,17 +1,15 @@
 -- What an opening leaves in its store.
-use Rattle.std.proofs.Common.{◌≡◌, ℕ, ◌+◌, ◌-◌, ◌<◌, ◌≤◌, Bool, true, false, cond, eqb, ltb, ◌⊎◌, List, [], ◌∷◌, is_some, Some, None, Ok, Err, Option, Result, sym, refl, ap, ◌∙◌, subst, inl, inr, ⊎_elim, arith}
+use Rattle.std.proofs.Common.{◌≡◌, ℕ, ◌+◌, ◌-◌, ◌<◌, true, false, cond, eqb, ltb, ◌⊎◌, List, [], ◌∷◌, is_some, Some, None, Option, sym, refl, ap, ◌∙◌, subst, inl, inr, ⊎_elim, arith}
 use Rattle.std.proofs.lemmas.Bool.{cases_Bool, both_ways, cond_both, cond-true, cond-false, lt-ltb, le-ltb, eqb-true, eq-eqb, or_from}
 use Rattle.causes.specs.Said.{Said, refused, granted}
 use Rattle.store.specs.Meaning.{Held, Meaning, added}
-use Rattle.store.specs.Calls.{put_says, put_leaves, lacks, OwnFault}
-use Rattle.wal.specs.declared.fault.WalFault.{WalFault}
+use Rattle.store.specs.Calls.{put_says, put_leaves, lacks}
 use Rattle.wal.specs.Said.{fault}
 use Rattle.wal_init.specs.declared.record.ManifestRecord.{ManifestRecord}
 use Rattle.wal_init.specs.declared.record.Options.{Options}
-use Rattle.wal_init.specs.declared.grant.Grant.{Grant}
-use Rattle.wal_init.specs.Fences.{reach, Tried, Stops, spent, settled, fence_says, Fenced}
-use Rattle.wal_init.specs.WriterInit.{said_grant, first_says, begin_says, start_says, TurnedAway, Begun, Opened}
-use Rattle.wal_init.specs.Laws.{Stands, GrantedOpeningsFence, FreeIdsAreGranted, FilesStay, RefusedOpeningsLeave}
+use Rattle.wal_init.specs.Fences.{Tried, spent, settled, fence_says, Fenced}
+use Rattle.wal_init.specs.WriterInit.{said_grant, first_says, begin_says, start_says}
+use Rattle.wal_init.specs.Laws.{GrantedOpeningsFence, FreeIdsAreGranted, FilesStay, RefusedOpeningsLeave}
 use Rattle.wal_init.proofs.Beginning.{number_of}
 use Rattle.wal_init.proofs.Outcomes.{never, never_zero, one_stop, turned, apart, first_of, second_of}
 

@@ -1,5 +1,5 @@
 -- The outcomes of an arrival and of a taking.
-use Rattle.std.proofs.Common.{◌≡◌, ℕ, ◌+◌, ◌<◌, ◌≤◌, Bool, true, false, Some, None, Option, Result, sym, refl, ap, ◌∙◌, subst, arith}
+use Rattle.std.proofs.Common.{◌≡◌, ℕ, ◌+◌, Bool, true, false, Some, None, Option, Result, sym, refl, ap, ◌∙◌, subst, arith}
 use Rattle.store.specs.declared.fault.StoreFault.{StoreFault}
 use Rattle.store.specs.Meaning as store
 use Rattle.store.proofs.Outcomes.{one_head}
@@ -7,7 +7,7 @@ use Rattle.wal_init.specs.declared.slot.SlotState.{SlotState}
 use Rattle.wal_init.specs.declared.slot.SlotState.TheVariants.{Waiting, Arrived, Refused}
 use Rattle.wal_init.specs.declared.window.Front.{Front}
 use Rattle.wal_init.specs.Slots.{Says}
-use Rattle.wal_init.specs.Windows.{Windowed, slot_at, unasked, with_answer, moved_on, Asks, Fronts}
+use Rattle.wal_init.specs.Windows.{Windowed, slot_at, with_answer, Asks, Fronts}
 use Rattle.wal_init.specs.Opening.{Meaning, with_window}
 use Rattle.wal_init.specs.Laws.{OneArrival, OneTaking}
 

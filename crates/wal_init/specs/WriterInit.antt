@@ -1,5 +1,5 @@
 -- What an opening says and leaves, from what the store meant before it.
-use Rattle.std.specs.Prelude.{◌≡◌, ℕ, ◌+◌, ◌^◌, ◌≤◌, Bool, true, false, cond, ◌||◌, ◌⊎◌, List, [], ◌∷◌, Ok, Err, Result, ◌==◌, nat_eq, nat_lt, slice_index}
+use Rattle.std.specs.Prelude.{◌≡◌, ℕ, ◌+◌, ◌^◌, ◌≤◌, Bool, true, false, cond, ◌||◌, ◌⊎◌, [], ◌∷◌, Ok, Err, Result, ◌==◌, nat_eq, nat_lt, slice_index}
 use Rattle.causes.specs.Said.{Said, refused, granted}
 use Rattle.rows.specs.declared.block.BlockSize.{BlockSize}
 use Rattle.store.specs.Meaning.{Held, Meaning}

@@ -1,12 +1,12 @@
 -- The file at the front, asked for and read.
-use Rattle.std.proofs.Common.{◌≡◌, ℕ, ◌+◌, ◌-◌, ◌<◌, ◌≤◌, Bool, true, false, cond, eqb, ltb, ◌⊎◌, List, [], ◌∷◌, ◌++◌, length, take, drop, Some, None, Ok, Err, Option, Result, sym, refl, ap, ◌∙◌, subst, inl, inr, ⊎_elim, arith}
+use Rattle.std.proofs.Common.{◌≡◌, ℕ, ◌-◌, ◌≤◌, Bool, true, false, ltb, ◌⊎◌, List, [], ◌∷◌, ◌++◌, length, take, drop, Some, None, Ok, Err, Option, Result, sym, refl, ap, ◌∙◌, subst, inl, inr, ⊎_elim, arith}
 use Rattle.std.proofs.lemmas.Bool.{cases_Bool, cond-false, both_ways, le-ltb}
 use Rattle.std.proofs.lemmas.List.{take_at}
 use Rattle.causes.specs.Said.{Said, refused, granted}
 use Rattle.store.specs.Meaning as store
 use Rattle.store.specs.Meaning.{Held as Stored, WithinLimit}
 use Rattle.store.specs.Said as Store-said
-use Rattle.store.specs.Calls.{Head, OwnFault, head_says, read_leaves}
+use Rattle.store.specs.Calls.{OwnFault, head_says, read_leaves}
 use Rattle.store.specs.declared.fault.StoreFault.{StoreFault}
 use Rattle.store.specs.declared.fault.StoreFault.TheVariants.{Exists, Missing, NoRoom, TooLong, Short, Unavailable}
 use Rattle.mem_table.specs.Meaning.{Held}
@@ -15,12 +15,11 @@ use Rattle.wal.specs.declared.fault.WalFault.TheVariants.{Store, Fenced, WalTrun
 use Rattle.wal.specs.Said as wal-said
 use Rattle.wal_init.specs.Opening as opening
 use Rattle.wal_init.specs.Slots.{Says}
-use Rattle.wal_init.specs.Windows.{Windowed, moved_on}
 use Rattle.wal_init.specs.declared.slot.SlotState.{SlotState}
 use Rattle.wal_init.specs.declared.slot.SlotState.TheVariants.{Waiting, Arrived, Refused}
 use Rattle.wal_init.specs.declared.window.Front.{Front}
 use Rattle.wal_replay.specs.Replays.{Meaning, front, fence, first_slot, with_opening, moved}
-use Rattle.wal_replay.specs.Files.{Files, met, refusal, read_met, Against, Refuses, Fetches, Fetched}
+use Rattle.wal_replay.specs.Files.{met, refusal, read_met, Against, Refuses, Fetches, Fetched}
 
 abbrev number_of : Said → ℕ
 number_of s = s.number

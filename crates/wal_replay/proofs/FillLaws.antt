@@ -1,16 +1,16 @@
 -- The rows of a sound text put into a table that has the room.
-use Rattle.std.proofs.Common.{◌≡◌, ℕ, ◌+◌, ◌<◌, ◌≤◌, Bool, true, false, cond, ltb, List, [], ◌∷◌, length, take, drop, Ok, Err, Result, sym, refl, ap, ◌∙◌, subst, inl, inr, arith}
-use Rattle.std.proofs.lemmas.Bool.{both_ways, cases_Bool, cond-true, cond-false}
-use Rattle.causes.specs.Said.{Said, refused, granted}
+use Rattle.std.proofs.Common.{◌≡◌, ℕ, ◌+◌, Bool, true, false, ltb, List, [], ◌∷◌, length, take, drop, Ok, Err, sym, refl, ap, ◌∙◌, subst, arith}
+use Rattle.std.proofs.lemmas.Bool.{both_ways, cond-true, cond-false}
+use Rattle.causes.specs.Said.{Said}
 use Rattle.rows.specs.Rows.{Row}
 use Rattle.rows.specs.Lines.{line, TextOf}
 use Rattle.mem_table.specs.declared.fault.TableFault.{TableFault}
 use Rattle.mem_table.specs.declared.fault.TableFault.TheVariants.{NoRoom}
 use Rattle.mem_table.specs.Said as table-said
 use Rattle.mem_table.specs.Meaning.{Held, Meaning, Listed, added, all_added}
-use Rattle.mem_table.specs.Calls.{Fit, Put, lacks, put_says}
+use Rattle.mem_table.specs.Calls.{Fit, Put, lacks}
 use Rattle.wal_replay.specs.Rows.{kept}
-use Rattle.wal_replay.specs.Texts.{Sound, Steps, Moves, Roomy, Puts, Filled}
+use Rattle.wal_replay.specs.Texts.{Sound, Steps, Moves, Roomy, Puts}
 
 -- the rows from place p on are still to be put
 pub record Filling (w : ℕ) (t : List ℕ) (before now : Meaning) (p : ℕ) : Type 0 where

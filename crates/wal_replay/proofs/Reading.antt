@@ -1,8 +1,7 @@
 -- One file more of a call.
-use Rattle.std.proofs.Common.{◌≡◌, ℕ, ◌+◌, ◌-◌, ◌<◌, ◌≤◌, Bool, true, false, cond, ltb, ◌⊎◌, List, [], ◌∷◌, ◌++◌, length, is_some, Some, None, Ok, Err, Option, Result, sym, refl, ap, ◌∙◌, subst, inl, inr, ⊎_elim, arith, MatchOption}
-use Rattle.std.specs.List.{flat_map}
+use Rattle.std.proofs.Common.{◌≡◌, ℕ, ◌+◌, ◌<◌, ◌≤◌, Bool, true, false, ltb, List, [], ◌∷◌, ◌++◌, length, is_some, Some, None, Ok, Err, Option, sym, refl, ap, ◌∙◌, subst, inl, inr, arith, MatchOption}
 use Rattle.std.proofs.lemmas.List.{append-nil, append_assoc}
-use Rattle.std.proofs.lemmas.Bool.{cases_Bool, both_ways, cond-false, le-ltb}
+use Rattle.std.proofs.lemmas.Bool.{both_ways, cond-false, le-ltb}
 use Rattle.causes.specs.Said.{Said, granted}
 use Rattle.rows.specs.Rows.{Row}
 use Rattle.store.specs.Meaning as store
@@ -12,12 +11,12 @@ use Rattle.mem_table.specs.Meaning as table
 use Rattle.mem_table.specs.Meaning.{Held, Listed, added, all_added}
 use Rattle.wal_replay.specs.declared.fault.ReplayFault.{ReplayFault}
 use Rattle.wal_replay.specs.declared.replay.ReplayedMemtable.{ReplayedMemtable}
-use Rattle.wal_replay.specs.Said.{fault, said}
-use Rattle.wal_replay.specs.Rows.{kept, reaches}
+use Rattle.wal_replay.specs.Said.{fault}
+use Rattle.wal_replay.specs.Rows.{kept}
 use Rattle.wal_replay.specs.Texts.{Filled}
-use Rattle.wal_replay.specs.Replays.{Meaning, front, fence, watermark, moved, past, stood, heard, handed}
+use Rattle.wal_replay.specs.Replays.{Meaning, front, fence, watermark, moved, past, handed}
 use Rattle.wal_replay.specs.Files.{Files, Fair, Refuses, Takes, Taken}
-use Rattle.wal_replay.specs.Next.{Answer, told, wanted, after, over, is_ripe, some, Whole, Because, closed, closing, left, says, hands_out, Reads, Reading, Idle, Next, at_once, Weighed}
+use Rattle.wal_replay.specs.Next.{Answer, told, wanted, after, over, is_ripe, some, Whole, closed, closing, Reading, Idle, Next, at_once, Weighed}
 use Rattle.wal_replay.proofs.Fetching.{was_unsteady}
 use Rattle.wal_replay.proofs.Standing.{weighs}
 

@@ -1,12 +1,11 @@
 -- Rows put one behind the other into an empty table: those that stand are the table's.
-use Rattle.std.proofs.Common.{◌≡◌, ℕ, ◌<◌, Bool, true, false, cond, ◌&&◌, ltb, leb, List, [], ◌∷◌, ◌++◌, length, is_some, Some, None, Option, sym, refl, ap, ◌∙◌, subst, inl, inr, arith}
-use Rattle.std.proofs.lemmas.List.{nil_from_length}
+use Rattle.std.proofs.Common.{◌≡◌, ℕ, true, false, cond, ◌&&◌, ltb, leb, List, [], ◌∷◌, length, is_some, Some, None, Option, sym, refl, ap, ◌∙◌, subst, inl, inr, arith}
 use Rattle.std.proofs.lemmas.Bool.{cases_Bool, both_ways, cond-true, cond-false}
 use Rattle.rows.specs.Rows.{Row}
 use Rattle.rows.specs.Sizes.{size, total, compacted_size}
 use Rattle.mem_table.specs.Order.{has}
 use Rattle.mem_table.specs.Meaning.{Held, Meaning, Listed, lookup, with_row, added, all_added}
-use Rattle.mem_table.proofs.Keys.{has_true, has_own}
+use Rattle.mem_table.proofs.Keys.{has_true}
 use Rattle.mem_table.proofs.Counting.{Unique, found_first, found_past, agree, unique_from}
 use Rattle.wal_replay.specs.Rows.{standing, reaches, ripe}
 

@@ -1,12 +1,11 @@
 -- A text looked over row by row.
-use Rattle.std.proofs.Common.{◌≡◌, ℕ, ◌+◌, ◌-◌, ◌<◌, ◌≤◌, max, Bool, true, false, cond, ltb, List, [], ◌∷◌, length, take, drop, ℤ, None, fold, Option, sym, refl, ap, ◌∙◌, subst, inl, inr, add_assoc, zero-add, arith, length-drop}
-use Rattle.std.proofs.lemmas.Bool.{both_ways, cases_Bool, cond-true, cond-false, cond_both}
+use Rattle.std.proofs.Common.{◌≡◌, ℕ, ◌+◌, ◌≤◌, max, Bool, true, false, cond, ltb, List, [], ◌∷◌, length, drop, ℤ, None, fold, sym, refl, ap, ◌∙◌, subst, zero-add, arith}
+use Rattle.std.proofs.lemmas.Bool.{both_ways, cond_both}
 use Rattle.rows.specs.Rows.{Row}
 use Rattle.rows.specs.Lines.{line, TextOf}
 use Rattle.rows.specs.Sizes.{weight, total}
 use Rattle.rows.specs.Reading.{Lies}
 use Rattle.rows.proofs.SeenLaws.{weight_le}
-use Rattle.rows.proofs.TextLaws.{line_bytes}
 use Rattle.wal_replay.specs.declared.survey.Survey.{Survey}
 use Rattle.wal_replay.specs.Rows.{kept, widen, span, raised, latest_tick, latest_seq}
 use Rattle.wal_replay.specs.Texts.{Sound, Steps, Moves, see, surveyed}

@@ -1,10 +1,8 @@
 -- A file that was asked for, read and put is a file taken.
-use Rattle.std.proofs.Common.{◌≡◌, ℕ, ◌+◌, ◌-◌, ◌<◌, ◌≤◌, Bool, true, false, cond, ◌||◌, eqb, ltb, ◌⊎◌, List, [], ◌∷◌, ◌++◌, length, take, drop, ℤ, Some, None, Ok, Err, Option, Result, sym, refl, ap, ◌∙◌, subst, inl, inr, ⊎_elim, arith}
-use Rattle.std.proofs.lemmas.Bool.{cases_Bool, cond-true, cond-false, both_ways, or_parts, ltb-false, ltb-true}
-use Rattle.std.proofs.lemmas.List.{take_at}
+use Rattle.std.proofs.Common.{◌≡◌, ℕ, ◌-◌, ◌≤◌, Bool, true, false, cond, ◌||◌, ltb, List, [], ◌∷◌, length, take, ℤ, Some, Ok, Err, Result, sym, refl, ap, ◌∙◌, subst, inr, arith}
+use Rattle.std.proofs.lemmas.Bool.{cond-false, or_parts, ltb-false}
 use Rattle.causes.specs.Said.{Said, refused, granted}
 use Rattle.rows.specs.Rows.{Row}
-use Rattle.rows.specs.Lines.{TextOf}
 use Rattle.rows.specs.Sizes.{weight, total}
 use Rattle.mem_table.specs.Meaning as table
 use Rattle.mem_table.specs.Meaning.{Held, Listed}
@@ -21,8 +19,8 @@ use Rattle.wal_init.specs.Opening as opening
 use Rattle.wal_init.specs.declared.window.Front.{Front}
 use Rattle.wal_replay.specs.declared.fault.ReplayFault.{ReplayFault}
 use Rattle.wal_replay.specs.declared.fault.ReplayFault.TheVariants.{Wal}
-use Rattle.wal_replay.specs.Replays.{Meaning, front, watermark, with_opening, moved, past}
-use Rattle.wal_replay.specs.Files.{disorder, full, flaw, or_else, Against, RoomChecked, TextTaken, Fetched, Taken, passed}
+use Rattle.wal_replay.specs.Replays.{Meaning, front, watermark, with_opening, moved}
+use Rattle.wal_replay.specs.Files.{disorder, full, or_else, Against, RoomChecked, TextTaken, Fetched, Taken, passed}
 use Rattle.wal_replay.proofs.TextLaws.{text_unique}
 use Rattle.wal_replay.proofs.Fetching.{within, id_is, moved_is, held_all, steady_all, fetch_refused, Got, fetch_got}
 

@@ -1,20 +1,17 @@
 -- A sound text read row by row, and that a text is read in one way only.
-use Rattle.std.proofs.Common.{◌≡◌, ℕ, ◌+◌, ◌<◌, ◌≤◌, max, Bool, true, false, cond, ltb, ◌⊎◌, List, [], ◌∷◌, ◌++◌, length, take, drop, ℤ, Ok, Err, fold, Option, Result, sym, refl, ap, ◌∙◌, subst, inl, inr, ⊎_elim, arith, length-append, length-drop}
+use Rattle.std.proofs.Common.{◌≡◌, ℕ, ◌+◌, ◌<◌, ◌≤◌, Bool, true, false, List, [], ◌∷◌, ◌++◌, length, take, drop, Ok, sym, refl, ap, ◌∙◌, subst, ⊎_elim, arith, length-append, length-drop}
 use Rattle.std.specs.List.{flat_map, AllByRecursion}
-use Rattle.std.proofs.lemmas.List.{take-append-drop, take_at, append_assoc, append_cancel_left, nil_from_length}
-use Rattle.std.proofs.lemmas.Bool.{cases_Bool, cases_order}
+use Rattle.std.proofs.lemmas.List.{take-append-drop, take_at, append_assoc, append_cancel_left}
+use Rattle.std.proofs.lemmas.Bool.{cases_order}
 use Rattle.rows.specs.declared.types.Damage.{Damage}
 use Rattle.rows.specs.Rows.{Row, Valid}
 use Rattle.rows.specs.Lines.{line, TextOf, WellFormed, Viable, Longest, DamagedText, ends}
 use Rattle.rows.specs.Fields.{values}
-use Rattle.rows.specs.Reading.{Handed, Reported, Advances, ReadsBack}
-use Rattle.rows.specs.Sizes.{weight, total}
+use Rattle.rows.specs.Reading.{Handed, Reported, Advances}
 use Rattle.rows.proofs.Lists.{take_plus, take_split}
 use Rattle.rows.proofs.LineLaws.{line_apart}
 use Rattle.rows.proofs.TextLaws.{line_of, same_row, text_append, text_one, line_bytes}
-use Rattle.wal_replay.specs.declared.survey.Survey.{Survey}
-use Rattle.wal_replay.specs.Rows.{kept, widen, span, raised, latest_tick, latest_seq}
-use Rattle.wal_replay.specs.Texts.{Sound, Steps, Moves, see, surveyed}
+use Rattle.wal_replay.specs.Texts.{Sound, Steps, Moves}
 
 pub whole : (t : List ℕ) (p : ℕ) → Sound t p → WellFormed t
 whole t p s = (

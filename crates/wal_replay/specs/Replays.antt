@@ -1,5 +1,5 @@
 -- What a replay means, and what becomes of it file by file.
-use Rattle.std.specs.Prelude.{◌≡◌, ℕ, max, Bool, true, false, cond, List, [], ◌∷◌, ◌++◌, ℤ, Some, None, Option, ◌==◌}
+use Rattle.std.specs.Prelude.{◌≡◌, ℕ, max, Bool, true, false, cond, List, ℤ, Some, None, Option, ◌==◌}
 use Rattle.std.specs.Option.{unwrap_or, option_map}
 use Rattle.causes.specs.Said.{Said}
 use Rattle.rows.specs.Rows.{Row}

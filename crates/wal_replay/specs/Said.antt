@@ -1,5 +1,5 @@
 -- What the answers of a replay say, by the numbers of their causes.
-use Rattle.std.specs.Prelude.{ℕ, List, [], ◌∷◌, Ok, Err, Result}
+use Rattle.std.specs.Prelude.{[], ◌∷◌, Ok, Err, Result}
 use Rattle.causes.specs.Said.{Said, refused, granted}
 use Rattle.wal.specs.Said.{fault as wal-fault}
 use Rattle.wal_replay.specs.declared.fault.ReplayFault.{ReplayFault}

@@ -1,5 +1,5 @@
 -- The text of a file, read row by row.
-use Rattle.std.specs.Prelude.{◌≡◌, ℕ, ◌+◌, max, Bool, true, false, cond, List, [], ◌∷◌, length, take, drop, ℤ, None, Ok, Err, Result, nat_lt}
+use Rattle.std.specs.Prelude.{◌≡◌, ℕ, ◌+◌, max, Bool, true, false, cond, List, [], ◌∷◌, length, take, drop, ℤ, Ok, Err, Result, nat_lt}
 use Rattle.rows.specs.declared.types.Damage.{Damage}
 use Rattle.rows.specs.Rows.{Row}
 use Rattle.rows.specs.Lines.{line, TextOf, WellFormed, DamagedText}

@@ -1,6 +1,5 @@
-use Rattle.std.proofs.Common.{◌≡◌, ◌<◌, [], length, get_or, sym, refl, ◌∙◌, arith, below_more}
+use Rattle.std.proofs.Common.{◌<◌, length, sym, refl, ◌∙◌, arith, below_more}
 use Rattle.std.proofs.lemmas.Bool.{false≢true}
-use Rattle.stations.specs.Stations.{names}
 use Rattle.stations.proofs.Naming.{name_at}
 use Rattle.stations.proofs.station.find.Goals as goal
 

@@ -5,8 +5,8 @@ use Rattle.wal.proofs.Running.{first_is, first_reaches}
 use Rattle.wal.proofs.Rounding.{is_there, is_cut, more_there}
 use Rattle.wal.proofs.tail.first_absent.Goals as goal
 
-pub returns-then-exp-ge-MAX-EXP : goal.returns-then-exp-ge-MAX-EXP
-returns-then-exp-ge-MAX-EXP g c =
+pub returns-then-exp-ge-MAX_EXP : goal.returns-then-exp-ge-MAX_EXP
+returns-then-exp-ge-MAX_EXP g c =
     let m = g.S.Store.means in
     let p = behind (m c.args.store.now).held c.args.start in
     let full : c.rounds.exp ≡ 48 = omega arith in

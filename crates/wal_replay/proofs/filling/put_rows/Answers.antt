@@ -1,13 +1,11 @@
-use Rattle.std.proofs.Common.{◌≡◌, ℕ, ◌+◌, ltb, length, Ok, Err, sym, refl, ap, ◌∙◌, subst, arith}
-use Rattle.std.proofs.lemmas.Bool.{lt-ltb, le-ltb}
-use Rattle.rows.specs.Lines.{line}
+use Rattle.std.proofs.Common.{◌≡◌, length, Ok, ap, ◌∙◌, arith}
+use Rattle.std.proofs.lemmas.Bool.{lt-ltb}
 use Rattle.rows.specs.Rows.{Row}
 use Rattle.rows.specs.Reading.{row_under}
 use Rattle.rows.proofs.TextLaws.{line_bytes}
 use Rattle.mem_table.specs.Calls.{Put}
 use Rattle.wal_replay.proofs.TextLaws.{moves_in}
-use Rattle.wal_replay.proofs.FillLaws.{Filling, First, first_of, has_room, skip, put, not_refused, all_put}
-use Rattle.wal_replay.proofs.filling.put_rows.Given.{Over}
+use Rattle.wal_replay.proofs.FillLaws.{first_of, put}
 use Rattle.wal_replay.proofs.filling.put_rows.Goals as goal
 
 pub loop-reader-smaller-in-Ok : goal.loop-reader-smaller-in-Ok

@@ -1,4 +1,4 @@
-use Rattle.std.proofs.Common.{refl, ap}
+use Rattle.std.proofs.Common.{refl}
 use Rattle.wal_replay.proofs.TextLaws.{moves, no_damage}
 use Rattle.wal_replay.proofs.survey.more.Goals as goal
 

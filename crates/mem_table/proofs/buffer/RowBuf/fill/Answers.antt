@@ -3,7 +3,7 @@ use Rattle.rows.specs.declared.types.Kind.{Kind}
 use Rattle.rows.specs.Rows.{Hex, room, digits_of}
 use Rattle.mem_table.proofs.Digits.{front, room_most}
 use Rattle.mem_table.proofs.buffer.RowBuf.fill.Goals as goal
-use Rattle.mem_table.proofs.buffer.RowBuf.fill.Goals.{After-kind_of-self, at·returns}
+use Rattle.mem_table.proofs.buffer.RowBuf.fill.Goals.{After-kind_of-self, at-returns}
 
 -- the key and the value are those of the row
 key-laid : (c : goal.After-kind_of-self) → take (length c.args.row.key.now) c.lay.new.buf ≡ c.args.row.key.now
@@ -23,7 +23,17 @@ invariant_of-self c =
     let value : Hex (room c.kind_of-self.result) (take (length c.digits-digits.result.now) c.lay-2.new.buf) = subst (Hex (room c.kind_of-self.result)) (sym v) most in
     let long : length c.digits-digits.result.now ≡ length (digits_of row.value) = ap length c.digits-digits.ensures in
     let short : length c.digits-digits.result.now ≤ 2048 = omega (arith, most.1, room_most c.kind_of-self.result) in
-    (row.number, (row.created, (row.expires, (c.lay.auto.buf ∙ self.key_long, (c.lay-2.auto.buf ∙ self.value_long, (row.key_digits.1, (short, (key, (value, tt)))))))))
+    record {
+      number = row.number;
+      created = row.created;
+      expires = row.expires;
+      key_long = c.lay.auto.buf ∙ self.key_long;
+      value_long = c.lay-2.auto.buf ∙ self.value_long;
+      key_within = row.key_digits.1;
+      value_within = short;
+      key_digits = key;
+      value_digits = value;
+    }
 
 pub returns : goal.returns
 returns c =

@@ -1,14 +1,14 @@
-use Rattle.std.proofs.Common.{◌≡◌, ◌+◌, ◌-◌, ◌*◌, ◌<◌, ◌≤◌, true, length, is_ok, vec_items, vec_len, vec_capacity, ◌∙◌, arith}
+use Rattle.std.proofs.Common.{◌≡◌, ◌+◌, ◌*◌, ◌<◌, ◌≤◌, true, length, is_ok, vec_items, vec_len, vec_capacity, ◌∙◌, arith}
 use Rattle.tables.specs.Shelves.{holds}
 use Rattle.std.proofs.lemmas.Bool.{cond-true}
 use Rattle.rows.specs.Entries.{row_of}
-use Rattle.tables.proofs.Landing.{Landed, comes_last, facts, spare_left, inserts}
+use Rattle.tables.proofs.Landing.{Landed, comes_last, spare_left, inserts}
 use Rattle.tables.proofs.Members.{came_in}
 use Rattle.mem_table.proofs.Room.{has_room}
 use Rattle.tables.proofs.Puts.{put_taken}
 use Rattle.tables.proofs.Shelves.{long, size_bound}
 use Rattle.tables.proofs.shelf.Shelf.insert.Goals as goal
-use Rattle.tables.proofs.shelf.Shelf.insert.Goals.{After-push_reserved, at·returns}
+use Rattle.tables.proofs.shelf.Shelf.insert.Goals.{After-push_reserved}
 
 pub insert-requires : goal.insert-requires
 insert-requires c = omega (arith, long c.args.self.now, c.args.self.now.ranks.ok.0, c.requires.gap.bound)
@@ -38,7 +38,24 @@ invariant_of-self c =
     let spare : vec_len t + 2 * c.left_after-puts.result.1 ≤ vec_capacity t = spare_left s c.args.row c.requires.room (vec_items t) (vec_len t) (vec_capacity t) c.left_after-puts.result.1 t.ok.0 c.store-slot.ensures.items c.store-slot.ensures.capacity c.left_after-puts.ensures.bytes in
     let slots : vec_len c.push_reserved.new.self + c.left_after-puts.result.0 ≤ vec_capacity c.push_reserved.new.self = omega (arith, c.push_reserved.ensures.len, c.push_reserved.ensures.capacity, s.slots_spare, c.left_after-puts.ensures.puts, room.0) in
     let ranks : vec_len c.insert.new.self + c.left_after-puts.result.0 ≤ vec_capacity c.insert.new.self = omega (arith, c.left_after-puts.ensures.puts, c.insert.ensures.len ∙ cond-true _ _ _ (inserted-ok c), (c.insert.ensures.in_place (free c)).1.0, s.ranks_spare, room.0) in
-    (spare, (slots, (ranks, facts _ _ _ _ _ _ (landed c).kept)))
+    let k = (landed c).kept in
+    record {
+      spare = spare;
+      slots_spare = slots;
+      ranks_spare = ranks;
+      counted = k.counted;
+      limited = k.limited;
+      fewer = k.fewer;
+      inside = k.inside;
+      digits = k.digits;
+      placed = λ i l. (k.sound i l).placed;
+      marked = λ i l. (k.sound i l).marked;
+      keyed = λ i l. (k.sound i l).keyed;
+      valued = λ i l. (k.sound i l).valued;
+      ordered = k.ordered;
+      weighed = k.weighed;
+      sized = k.sized;
+    }
 
 pub returns : goal.returns
 returns c = record {

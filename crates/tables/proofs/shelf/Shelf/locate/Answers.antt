@@ -8,7 +8,7 @@ use Rattle.tables.proofs.Ordered.{front_more, back_more}
 use Rattle.tables.proofs.Standing.{standing_at}
 use Rattle.tables.proofs.Shelves.{listed, long, sound_at}
 use Rattle.tables.proofs.shelf.Shelf.locate.Goals as goal
-use Rattle.tables.proofs.shelf.Shelf.locate.Goals.{After-slot_at-slot, at·compare-requires, at·returns-in-Equal, at·loop-low-again-in-Less, at·loop-low-again}
+use Rattle.tables.proofs.shelf.Shelf.locate.Goals.{After-slot_at-slot}
 
 pub loop-low-init : goal.loop-low-init
 loop-low-init c =

@@ -1,19 +1,19 @@
-use Rattle.std.proofs.Common.{◌≡◌, ◌+◌, ◌-◌, ◌*◌, ◌≤◌, get_or, set, vec_items, vec_len, vec_capacity, refl, ap, ◌∙◌, arith}
+use Rattle.std.proofs.Common.{◌≡◌, ◌+◌, ◌*◌, ◌≤◌, get_or, set, vec_items, vec_len, vec_capacity, refl, ap, ◌∙◌, arith}
 use Rattle.rows.specs.Entries.{row_of}
 use Rattle.rows.specs.Sizes.{size}
 use Rattle.mem_table.specs.Order.{no_row}
 use Rattle.tables.specs.Shelves.{order_of}
-use Rattle.tables.proofs.Landing.{Landed, facts, spare_left, overwrites}
+use Rattle.tables.proofs.Landing.{Landed, spare_left, overwrites}
 use Rattle.tables.proofs.Puts.{put_taken}
 use Rattle.tables.proofs.Shelves.{long, rank_is, size_bound, size_within}
 use Rattle.tables.proofs.shelf.Shelf.overwrite.Goals as goal
-use Rattle.tables.proofs.shelf.Shelf.overwrite.Goals.{After-index-mut, at·ghost-self, at·returns}
+use Rattle.tables.proofs.shelf.Shelf.overwrite.Goals.{After-index_mut}
 
 pub index-requires : goal.index-requires
 index-requires c = let s = c.args.self.now in omega (arith, c.requires.there.bound, long s, s.ranks.ok.0)
 
-pub index-mut-requires : goal.index-mut-requires
-index-mut-requires c =
+pub index_mut-requires : goal.index_mut-requires
+index_mut-requires c =
     let s = c.args.self.now in
     let n = rank_is s c.args.i c.index.result.now c.index.ensures c.requires.there.bound in
     omega (arith, s.inside c.args.i (omega (arith, c.requires.there.bound, long s)), s.slots.ok.0)
@@ -24,12 +24,12 @@ size_after-size-requires c =
     record { bound = size_bound c.args.self.now c.args.row c.requires.room; old = omega (arith, size_within c.args.self.now (row_of c.args.row) c.args.i c.requires.there.bound) }
 
 -- the size of the row that goes is taken off
-less : (c : goal.After-index-mut) → c.size_after-size.result + size (get_or (order_of c.args.self.now) c.args.i no_row) ≡ c.args.self.now.size + size (row_of c.args.row)
+less : (c : goal.After-index_mut) → c.size_after-size.result + size (get_or (order_of c.args.self.now) c.args.i no_row) ≡ c.args.self.now.size + size (row_of c.args.row)
 less c =
     let a = c.estimated_size.ensures ∙ ap size c.row_at.ensures in
     omega (arith, c.size_after-size.ensures, size_within c.args.self.now (row_of c.args.row) c.args.i c.requires.there.bound)
 
-landed : (c : goal.After-index-mut) → Landed c.args.self.now (row_of c.args.row) (vec_items c.store-slot.new.text) (set (vec_items c.args.self.now.slots) c.index.result.now c.store-slot.result) (vec_items c.args.self.now.ranks) c.left_after-puts.result.0 c.left_after-puts.result.1 c.size_after-size.result
+landed : (c : goal.After-index_mut) → Landed c.args.self.now (row_of c.args.row) (vec_items c.store-slot.new.text) (set (vec_items c.args.self.now.slots) c.index.result.now c.store-slot.result) (vec_items c.args.self.now.ranks) c.left_after-puts.result.0 c.left_after-puts.result.1 c.size_after-size.result
 landed c =
     let s = c.args.self.now in
     let n = rank_is s c.args.i c.index.result.now c.index.ensures c.requires.there.bound in
@@ -43,7 +43,24 @@ invariant_of-self c =
     let spare : vec_len t + 2 * c.left_after-puts.result.1 ≤ vec_capacity t = spare_left s c.args.row c.requires.room (vec_items t) (vec_len t) (vec_capacity t) c.left_after-puts.result.1 t.ok.0 c.store-slot.ensures.items c.store-slot.ensures.capacity c.left_after-puts.ensures.bytes in
     let slots : vec_len s.slots + c.left_after-puts.result.0 ≤ vec_capacity s.slots = omega (arith, s.slots_spare, c.left_after-puts.ensures.puts) in
     let ranks : vec_len s.ranks + c.left_after-puts.result.0 ≤ vec_capacity s.ranks = omega (arith, s.ranks_spare, c.left_after-puts.ensures.puts) in
-    (spare, (slots, (ranks, facts _ _ _ _ _ _ (landed (goal.at.invariant_of-self c).After-index-mut).kept)))
+    let k = (landed (goal.at.invariant_of-self c).After-index_mut).kept in
+    record {
+      spare = spare;
+      slots_spare = slots;
+      ranks_spare = ranks;
+      counted = k.counted;
+      limited = k.limited;
+      fewer = k.fewer;
+      inside = k.inside;
+      digits = k.digits;
+      placed = λ i l. (k.sound i l).placed;
+      marked = λ i l. (k.sound i l).marked;
+      keyed = λ i l. (k.sound i l).keyed;
+      valued = λ i l. (k.sound i l).valued;
+      ordered = k.ordered;
+      weighed = k.weighed;
+      sized = k.sized;
+    }
 
 pub returns : goal.returns
-returns c = put_taken c.requires.room (landed (goal.at.returns c).After-index-mut)
+returns c = put_taken c.requires.room (landed (goal.at.returns c).After-index_mut)

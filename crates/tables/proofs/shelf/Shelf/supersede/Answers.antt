@@ -1,17 +1,17 @@
-use Rattle.std.proofs.Common.{◌≡◌, ◌+◌, ◌-◌, ◌*◌, ◌≤◌, get_or, set, vec_items, vec_len, vec_capacity, ap, ◌∙◌, arith}
+use Rattle.std.proofs.Common.{◌≡◌, ◌+◌, ◌*◌, ◌≤◌, get_or, set, vec_items, vec_len, vec_capacity, ap, ◌∙◌, arith}
 use Rattle.rows.specs.Entries.{row_of}
 use Rattle.rows.specs.Sizes.{size}
 use Rattle.mem_table.specs.Order.{no_row}
 use Rattle.tables.specs.Shelves.{holds, order_of}
-use Rattle.tables.proofs.Landing.{Landed, comes_last, facts, spare_left, supersedes}
+use Rattle.tables.proofs.Landing.{Landed, comes_last, spare_left, supersedes}
 use Rattle.mem_table.proofs.Room.{has_room}
 use Rattle.tables.proofs.Puts.{put_taken}
 use Rattle.tables.proofs.Shelves.{long, size_bound, size_within}
 use Rattle.tables.proofs.shelf.Shelf.supersede.Goals as goal
-use Rattle.tables.proofs.shelf.Shelf.supersede.Goals.{After-push_reserved, at·returns}
+use Rattle.tables.proofs.shelf.Shelf.supersede.Goals.{After-push_reserved}
 
-pub index-mut-requires : goal.index-mut-requires
-index-mut-requires c = let s = c.args.self.now in omega (arith, c.requires.there.bound, long s, s.ranks.ok.0)
+pub index_mut-requires : goal.index_mut-requires
+index_mut-requires c = let s = c.args.self.now in omega (arith, c.requires.there.bound, long s, s.ranks.ok.0)
 
 pub size_after-size-requires : goal.size_after-size-requires
 size_after-size-requires c =
@@ -38,7 +38,24 @@ invariant_of-self c =
     let spare : vec_len t + 2 * c.left_after-puts.result.1 ≤ vec_capacity t = spare_left s c.args.row c.requires.room (vec_items t) (vec_len t) (vec_capacity t) c.left_after-puts.result.1 t.ok.0 c.store-slot.ensures.items c.store-slot.ensures.capacity c.left_after-puts.ensures.bytes in
     let slots : vec_len c.push_reserved.new.self + c.left_after-puts.result.0 ≤ vec_capacity c.push_reserved.new.self = omega (arith, c.push_reserved.ensures.len, c.push_reserved.ensures.capacity, s.slots_spare, c.left_after-puts.ensures.puts, room.0) in
     let ranks : vec_len s.ranks + c.left_after-puts.result.0 ≤ vec_capacity s.ranks = omega (arith, s.ranks_spare, c.left_after-puts.ensures.puts) in
-    (spare, (slots, (ranks, facts _ _ _ _ _ _ (landed c).kept)))
+    let k = (landed c).kept in
+    record {
+      spare = spare;
+      slots_spare = slots;
+      ranks_spare = ranks;
+      counted = k.counted;
+      limited = k.limited;
+      fewer = k.fewer;
+      inside = k.inside;
+      digits = k.digits;
+      placed = λ i l. (k.sound i l).placed;
+      marked = λ i l. (k.sound i l).marked;
+      keyed = λ i l. (k.sound i l).keyed;
+      valued = λ i l. (k.sound i l).valued;
+      ordered = k.ordered;
+      weighed = k.weighed;
+      sized = k.sized;
+    }
 
 pub returns : goal.returns
 returns c = record {

@@ -1,4 +1,4 @@
-use Rattle.std.proofs.Common.{◌≡◌, ℕ, length, sym, ap, ◌∙◌, arith}
+use Rattle.std.proofs.Common.{ap, arith}
 use Rattle.std.specs.Option.{option_map}
 use Rattle.wal_replay.specs.Said.{said}
 use Rattle.std.proofs.lemmas.List.{nil_from_length}
@@ -8,11 +8,11 @@ use Rattle.wal_replay.proofs.replay.WalReplayIterator.next.Goals as goal
 
 pub read_on-requires : goal.read_on-requires
 read_on-requires g c = record {
-  buffer = c.if-buffer-lt-BUFFER-SIZE.false;
+  buffer = c.if-buffer-lt-BUFFER_SIZE.false;
   table = (c.metadata-rows.ensures.listed, nil_from_length _ (omega (arith, c.metadata-rows.ensures.count, c.if-rows-gt0.false)));
 }
 
 pub returns-in-None : goal.returns-in-None
 returns-in-None g c =
-    let n = no_answer (meaning c.args.self.now) (g.T.Table.means c.args.table.now) c.args.buffer.now c.if-buffer-lt-BUFFER-SIZE.false (omega (arith, c.metadata-rows.ensures.count, c.if-rows-gt0.false)) (ap (option_map said) c.in-None.is) in
+    let n = no_answer (meaning c.args.self.now) (g.T.Table.means c.args.table.now) c.args.buffer.now c.if-buffer-lt-BUFFER_SIZE.false (omega (arith, c.metadata-rows.ensures.count, c.if-rows-gt0.false)) (ap (option_map said) c.in-None.is) in
     record { call = reads_on _ _ _ _ _ _ _ _ _ n c.read_on.ensures; untouched = λ e. absurd (not_some _ n e) }

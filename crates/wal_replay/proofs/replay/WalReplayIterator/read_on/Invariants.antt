@@ -1,4 +1,4 @@
-use Rattle.std.proofs.Common.{◌≡◌, ◌+◌, ◌-◌, ◌≤◌, length}
+use Rattle.std.proofs.Common.{◌+◌, ◌-◌}
 use Rattle.wal_replay.specs.Replays.{meaning, front, fence}
 use Rattle.wal_replay.proofs.Reading.{SoFar}
 use Rattle.wal_replay.proofs.replay.WalReplayIterator.read_on.Given as goal

@@ -1,4 +1,3 @@
-use Rattle.std.proofs.Common.{refl}
 use Rattle.std.proofs.lemmas.Result.{err_from_is_err_and}
 use Rattle.wal_init.specs.Opening.{means}
 use Rattle.wal_replay.specs.Replays.{meaning}
