@@ -1,5 +1,5 @@
 -- The words of a line as settings, one after another.
-use Rattle.std.proofs.Common.{◌≡◌, ℕ, ◌<◌, List, [], ◌∷◌, Some, None, Ok, Err, Option, Result, sym, ap, ◌∙◌, subst, inl, inr}
+use Rattle.std.proofs.Common.{◌≡◌, ℕ, List, Some, Ok, Err, Option, Result, sym, ap, ◌∙◌, subst, inl, inr}
 use Rattle.commands.specs.declared.options.Options.{Options}
 use Rattle.commands.specs.declared.options.Setting.{Setting}
 use Rattle.script.specs.declared.reason.Reason.{Reason}

@@ -4,7 +4,7 @@ use Rattle.std.specs.List.{flat_map}
 use Rattle.std.specs.declared.alloc.AllocError.{AllocError}
 use Rattle.std.proofs.lemmas.List.{flat_map_more, take_all, take_at, take_more}
 use Rattle.std.proofs.lemmas.Bool.{cases_Bool, cond-true, cond-false, false≢true, true≢false}
-use Rattle.causes.specs.Said.{Said, refused, granted}
+use Rattle.causes.specs.Said.{Said, refused}
 use Rattle.rows.specs.Rows.{Row}
 use Rattle.rows.specs.Lines.{line, TextOf}
 use Rattle.rows.specs.Reading.{Handed, Advances}

@@ -67,7 +67,7 @@ pub fn none<T: Table>(rt: &impl Abort, table: &T, i: usize) -> Result<(), Fail> 
     assert_eq!(rt; entry.seq, 9);
     assert_eq!(rt; entry.create_ts, None);
     assert_eq!(rt; entry.expire_ts, Some(5));
-    assert_eq!(rt; entry.key, b"ab");
-    assert_eq!(rt; entry.value.digits(), b"cd");
+    assert_eq!(rt; entry.key, b"ab".as_slice());
+    assert_eq!(rt; entry.value.digits(), b"cd".as_slice());
     Ok(())
 }

@@ -35,13 +35,13 @@ fn filled(rt: HostRuntime) -> Result<(), Fail> {
     assert_eq!(rt; row.lend().estimated_size(), 8);
     fill(&mut row, b"7\tV\t100\t-\t6131\t00ff\n")?;
     assert_eq!(rt; row.lend().estimated_size(), 20);
-    assert_eq!(rt; row.lend().key, b"6131");
+    assert_eq!(rt; row.lend().key, b"6131".as_slice());
     fill(&mut row, b"8\tT\t-\t-3\t61\t\n")?;
     let entry = row.lend();
     assert_eq!(rt; entry.seq, 8);
     assert_eq!(rt; entry.create_ts, None);
     assert_eq!(rt; entry.expire_ts, Some(-3));
-    assert_eq!(rt; entry.key, b"61");
-    assert_eq!(rt; entry.value.digits(), b"");
+    assert_eq!(rt; entry.key, b"61".as_slice());
+    assert_eq!(rt; entry.value.digits(), b"".as_slice());
     Ok(())
 }

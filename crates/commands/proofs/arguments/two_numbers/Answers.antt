@@ -1,4 +1,4 @@
-use Rattle.std.proofs.Common.{◌∷◌, Some, ap, ◌∙◌}
+use Rattle.std.proofs.Common.{◌∷◌, ap, ◌∙◌}
 use Rattle.std.specs.Option.{option_map}
 use Rattle.commands.proofs.Asking.{all_words, more_words, two_extra}
 use Rattle.commands.proofs.arguments.two_numbers.Goals as goal

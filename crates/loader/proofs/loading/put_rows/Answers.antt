@@ -1,8 +1,6 @@
-use Rattle.std.proofs.Common.{◌≡◌, ◌+◌, ◌≤◌, length, take, Ok, Err, sym, refl, ap, ◌∙◌, subst, inl, inr, arith}
+use Rattle.std.proofs.Common.{◌≡◌, ◌+◌, length, Ok, Err, refl, ap, ◌∙◌, subst, inl, inr, arith}
 use Rattle.std.proofs.lemmas.Result.{err_from_is_err_and}
-use Rattle.rows.specs.Entries.{row_of}
 use Rattle.rows.specs.Lines.{line}
-use Rattle.rows.specs.Rows.{Row}
 use Rattle.rows.specs.Reading.{Advances, Reported, row_under}
 use Rattle.rows.proofs.TextLaws.{line_bytes}
 use Rattle.mem_table.specs.Calls.{Put}
