@@ -1,7 +1,7 @@
 -- What the words behind a call's first ask for.
 use Rattle.std.proofs.Common.{◌≡◌, ℕ, List, [], ◌∷◌, Some, None, Err, Option, sym, refl, ap, ◌∙◌, subst, arith}
 use Rattle.script.specs.declared.reason.Reason.TheVariants.{WrongWords}
-use Rattle.commands.specs.Arguments.{One, OneName, Two}
+use Rattle.commands.specs.Arguments.{One, Two}
 use Rattle.script.specs.Words.{others, words as worded}
 use Rattle.script.proofs.Wording.{words_some}
 
@@ -26,9 +26,6 @@ module _ (line : List ℕ) (words behind : Option (List ℕ)) (front : List ℕ)
 
 pub one_extra : (ws : List (List ℕ)) (f w : List ℕ) (more : List (List ℕ)) → ws ≡ f ∷ w ∷ more → One ws (Err WrongWords)
 one_extra ws f w more e = subst (λ l. One l (Err WrongWords)) (sym e) refl
-
-pub one_name_extra : (ws : List (List ℕ)) (f w : List ℕ) (more : List (List ℕ)) → ws ≡ f ∷ w ∷ more → OneName ws (Err WrongWords)
-one_name_extra ws f w more e = subst (λ l. OneName l (Err WrongWords)) (sym e) refl
 
 pub two_extra : (ws : List (List ℕ)) (f g w : List ℕ) (more : List (List ℕ)) → ws ≡ f ∷ g ∷ w ∷ more → Two ws (Err WrongWords)
 two_extra ws f g w more e = subst (λ l. Two l (Err WrongWords)) (sym e) refl

@@ -25,13 +25,6 @@ One [] r = r ≡ Err WrongWords
 One (w ∷ []) r = NumberIs w r
 One (w ∷ x ∷ ws) r = r ≡ Err WrongWords
 
--- one word
-abbrev pub OneName : List (List ℕ) → Result (Bor (List ℕ)) Reason → Type 0
-OneName [] r = r ≡ Err WrongWords
-OneName (w ∷ []) (Ok x) = x.now ≡ w
-OneName (w ∷ []) (Err e) = ⊥
-OneName (w ∷ x ∷ ws) r = r ≡ Err WrongWords
-
 -- two words, each a number; the first that is none is the fault
 abbrev pub Both : List ℕ → List ℕ → Result (ℕ × ℕ) Reason → Type 0
 Both w x (Ok p) = NumberIs w (Ok p.0) × NumberIs x (Ok p.1)

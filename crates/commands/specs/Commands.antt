@@ -10,8 +10,8 @@ use Rattle.commands.specs.declared.command.Command.{Command}
 use Rattle.commands.specs.declared.command.Command.TheVariants as command
 use Rattle.commands.specs.declared.command.TableKind.{TableKind}
 use Rattle.commands.specs.declared.verb.Verb.{Verb}
-use Rattle.commands.specs.declared.verb.Verb.TheVariants.{Check, Options, Store, Script, Record, Table, Put, Head, Read, Load, Tail, Open, Arrive, Next}
-use Rattle.commands.specs.Arguments.{One, OneName, Two, Named, KindOf}
+use Rattle.commands.specs.declared.verb.Verb.TheVariants.{Check, Options, Store, Script, Record, Table, Put, Head, Read, Load, Tail, Open, Arrive}
+use Rattle.commands.specs.Arguments.{One, Two, Named, KindOf}
 use Rattle.commands.specs.Verbs.{VerbOf}
 
 -- a command by what it asks for: its numbers, its text, and its words as bytes
@@ -29,7 +29,6 @@ pub data Ask : Type 0 where
   to_probe : ℕ → Ask
   to_open : List ℕ → ℕ → Ask
   to_arrive : List ℕ → ℕ → Ask
-  to_replay : List ℕ → Ask
 
 abbrev pub asked : Command → Ask
 asked (command.Check t) = to_check t
@@ -45,7 +44,6 @@ asked (command.Load t) = to_load t
 asked (command.Tail n) = to_probe n
 asked (command.Open w n) = to_open w.now n
 asked (command.Arrive w n) = to_arrive w.now n
-asked (command.Next w) = to_replay w.now
 
 -- a command that asks for this
 abbrev pub Gives : Ask → Result Command Reason → Type 0
@@ -83,7 +81,6 @@ Texted Read ws t r = r ≡ Err ExtraText
 Texted Tail ws t r = r ≡ Err ExtraText
 Texted Open ws t r = r ≡ Err ExtraText
 Texted Arrive ws t r = r ≡ Err ExtraText
-Texted Next ws t r = r ≡ Err ExtraText
 
 -- and without one
 abbrev pub Plain : Verb → List (List ℕ) → Result Command Reason → Type 0
@@ -100,7 +97,6 @@ Plain Read ws r = Made (One ws) to_read r
 Plain Tail ws r = Made (One ws) to_probe r
 Plain Open ws r = Made (Named ws) (λ (p : Numbered). to_open p.name.now p.number) r
 Plain Arrive ws r = Made (Named ws) (λ (p : Numbered). to_arrive p.name.now p.number) r
-Plain Next ws r = Made (OneName ws) (λ x. to_replay x.now) r
 
 abbrev pub For : Verb → List (List ℕ) → Option Text → Result Command Reason → Type 0
 For v ws (Some t) r = Texted v ws t r

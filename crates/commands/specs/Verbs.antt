@@ -1,7 +1,7 @@
 -- The first words of lines.
 use Rattle.std.specs.Prelude.{◌≡◌, ℕ, List, Some, None, codes, Option, ◌≢◌}
 use Rattle.commands.specs.declared.verb.Verb.{Verb}
-use Rattle.commands.specs.declared.verb.Verb.TheVariants.{Check, Options, Store, Script, Record, Table, Put, Head, Read, Load, Tail, Open, Arrive, Next}
+use Rattle.commands.specs.declared.verb.Verb.TheVariants.{Check, Options, Store, Script, Record, Table, Put, Head, Read, Load, Tail, Open, Arrive}
 
 abbrev pub verb_word : Verb → List ℕ
 verb_word Check = codes "check"
@@ -17,7 +17,6 @@ verb_word Load = codes "load"
 verb_word Tail = codes "tail"
 verb_word Open = codes "open"
 verb_word Arrive = codes "arrive"
-verb_word Next = codes "next"
 
 abbrev pub VerbOf : List ℕ → Option Verb → Type 0
 VerbOf w (Some v) = w ≡ verb_word v

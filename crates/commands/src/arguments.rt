@@ -1,6 +1,6 @@
 //! The words behind a call's first.
 ghost use Rattle.std.specs.Option.{option_map};
-ghost use Rattle.commands.specs.Arguments.{Both, KindOf, Named, NoWords, NumberIs, One, OneName, Two};
+ghost use Rattle.commands.specs.Arguments.{Both, KindOf, Named, NoWords, NumberIs, One, Two};
 ghost use Rattle.script.specs.Words.{others};
 
 use crate::command::TableKind;
@@ -39,20 +39,6 @@ pub(crate) fn one_number(words: Option<&[u8]>) -> Result<u64, Reason>
     match parted.behind {
         Some(_) => Err(Reason::WrongWords),
         None => as_number(parted.front),
-    }
-}
-
-/// One word.
-pub(crate) fn one_name(words: Option<&[u8]>) -> Result<&[u8], Reason>
-    ensures { OneName (others (option_map (λ x. x.now) words.entry)) result }
-{
-    let Some(line) = words else {
-        return Err(Reason::WrongWords);
-    };
-    let parted = first_word(line);
-    match parted.behind {
-        Some(_) => Err(Reason::WrongWords),
-        None => Ok(parted.front),
     }
 }
 

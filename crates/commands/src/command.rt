@@ -4,7 +4,7 @@ ghost use Rattle.std.specs.Option.{option_map};
 ghost use Rattle.commands.specs.Commands.{Asks, Plain, Tabled, Texted};
 ghost use Rattle.script.specs.Words.{others, words};
 
-use crate::arguments::{kind_of, name_and_number, no_words, one_name, one_number, two_numbers};
+use crate::arguments::{kind_of, name_and_number, no_words, one_number, two_numbers};
 use crate::verb::{Verb, verb_of};
 use script::call::{Call, Text};
 use script::parts::first_word;
@@ -33,7 +33,6 @@ pub enum Command<'a> {
     Tail(u64),
     Open(&'a [u8], u64),
     Arrive(&'a [u8], u64),
-    Next(&'a [u8]),
 }
 
 /// What a line with a text asks for.
@@ -98,7 +97,6 @@ fn without_text<'a>(verb: Verb, behind: Option<&'a [u8]>) -> Result<Command<'a>,
             let at = name_and_number(behind)?;
             Ok(Command::Arrive(at.name, at.number))
         }
-        Verb::Next => Ok(Command::Next(one_name(behind)?)),
     }
 }
 

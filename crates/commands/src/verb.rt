@@ -19,7 +19,6 @@ pub enum Verb {
     Tail,
     Open,
     Arrive,
-    Next,
 }
 
 /// What a first word stands for.
@@ -52,8 +51,6 @@ pub fn verb_of(word: &[u8]) -> Option<Verb>
         Some(Verb::Open)
     } else if is_word(word, b"arrive") {
         Some(Verb::Arrive)
-    } else if is_word(word, b"next") {
-        Some(Verb::Next)
     } else {
         None
     }

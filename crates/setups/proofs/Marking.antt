@@ -1,5 +1,5 @@
 -- Words read as marks one by one.
-use Rattle.std.proofs.Common.{◌≡◌, ℕ, List, [], ◌∷◌, ◌++◌, sym, refl, ap, ◌∙◌, subst, inl, inr, append_assoc, append-nil}
+use Rattle.std.proofs.Common.{◌≡◌, ℕ, List, [], ◌∷◌, ◌++◌, sym, refl, subst, inr, append_assoc, append-nil}
 use Rattle.store.specs.declared.marks.Mark.{Mark}
 use Rattle.setups.specs.Marks.{mark_word, MarksAre, NoMark}
 

@@ -1,5 +1,5 @@
 -- The store that a script works on.
-use Rattle.std.specs.Prelude.{◌≡◌, ℕ, ◌⊎◌, List, [], ◌∷◌, ◌++◌, take, Some, None, Ok, Err, vec_items, codes, Option, Result, Vec, ◌≢◌}
+use Rattle.std.specs.Prelude.{◌≡◌, ℕ, ◌⊎◌, List, [], ◌∷◌, take, Some, None, Ok, Err, vec_items, codes, Option, Result, Vec, ◌≢◌}
 use Rattle.std.specs.declared.alloc.Global.{Global}
 use Rattle.store.specs.declared.marks.Mark.{Mark}
 use Rattle.store.specs.declared.marks.Mark.TheVariants.{Fair, Lost, Late}

@@ -5,14 +5,13 @@ ghost use Rattle.stations.specs.Stations.{Finds, ended_so, no_tables, one_more};
 use super::Name;
 use causes::Refusal;
 use script::parts::is_word;
-use wal_replay::WalReplayIterator;
+use wal_init::Opening;
 
-/// A station: its name, and the replay of the journal that it has opened.
+/// A station: its name, and the journal that it has opened.
 #[derive(Drop)]
 pub struct Station {
     pub name: Name,
-    pub replay: WalReplayIterator,
-    pub tables: Tables,
+    pub opening: Opening,
 }
 
 /// What a replay has handed out, and how it ended.

@@ -1,4 +1,4 @@
-use Rattle.std.proofs.Common.{◌≡◌, ℕ, true, not, List, [], ◌∷◌, ◌++◌, is_ok, vec_items, sym, refl, ap, ◌∙◌, subst, inl}
+use Rattle.std.proofs.Common.{◌≡◌, true, not, [], ◌∷◌, ◌++◌, is_ok, vec_items, sym, refl, ap, ◌∙◌, subst, inl}
 use Rattle.std.specs.Option.{option_map}
 use Rattle.script.specs.Words.{others}
 use Rattle.script.proofs.Wording.{words_first}

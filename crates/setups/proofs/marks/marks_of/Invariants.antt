@@ -1,4 +1,4 @@
-use Rattle.std.proofs.Common.{◌++◌, vec_items}
+use Rattle.std.proofs.Common.{vec_items}
 use Rattle.std.specs.Option.{option_map}
 use Rattle.script.specs.Words.{others}
 use Rattle.script.proofs.Wording.{extent}
