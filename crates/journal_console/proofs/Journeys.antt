@@ -1,5 +1,5 @@
 -- Stations that open, and answers that are taken into the account.
-use Rattle.std.proofs.Common.{◌≡◌, ℕ, true, false, List, is_some, Some, None, vec_items, Option, sym, refl, ap, ◌∙◌, subst}
+use Rattle.std.proofs.Common.{◌≡◌, ℕ, false, List, is_some, Some, None, vec_items, Option, sym, ap, ◌∙◌, subst}
 use Rattle.std.proofs.lemmas.Bool.{true≢false}
 use Rattle.journal_answers.specs.Accounts.{noted}
 use Rattle.journal_answers.specs.declared.account.Account.{Account}

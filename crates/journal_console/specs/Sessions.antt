@@ -1,5 +1,5 @@
 -- A session, and what lines leave of it.
-use Rattle.std.specs.Prelude.{◌≡◌, ◌-◌, true, false, List, [], vec_items}
+use Rattle.std.specs.Prelude.{◌≡◌, ◌-◌, true, false, [], vec_items}
 use Rattle.journal_answers.specs.Accounts.{holding, no_account, noted}
 use Rattle.journal_answers.specs.declared.account.Account.{Account}
 use Rattle.journal_answers.specs.declared.account.Part.{Part}

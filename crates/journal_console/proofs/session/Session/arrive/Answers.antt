@@ -1,4 +1,4 @@
-use Rattle.std.proofs.Common.{List, Some, sym, refl, ap, subst, rules}
+use Rattle.std.proofs.Common.{List, Some, sym, refl, ap, subst}
 use Rattle.stations.specs.declared.station.Station.{Station}
 use Rattle.stations.specs.Stations.{Finds}
 use Rattle.store.specs.Meaning.{Meaning}
@@ -12,12 +12,12 @@ use Rattle.journal_console.proofs.session.Session.arrive.Goals as goal
 
 pub returns : goal.returns
 returns c =
-    let was = c.index-mut.result.now in
+    let was = c.index_mut.result.now in
     record {
       place = c.in-Some.i;
       finds = subst (λ (xs : List Station). Finds xs c.args.word.now (Some c.in-Some.i)) c.as_slice.ensures.value c.in-Some.ensures;
       was = was;
-      there = c.index-mut.ensures.value;
+      there = c.index_mut.ensures.value;
       is = record { name = was.name; opening = c.arrive-asked.new.self };
       asked = c.arrive-asked.result;
       arrived = subst (λ (m : Meaning). Arrived (scripted memory_means c.args.self.now.store) m (means was.opening) (means c.arrive-asked.new.self) c.args.k c.arrive-asked.result) (sym (ap (λ (x : FaultScript MemoryStore). scripted memory_means x) c.note.ensures.store)) c.arrive-asked.ensures.arrived;

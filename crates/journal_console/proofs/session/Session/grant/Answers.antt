@@ -1,4 +1,4 @@
-use Rattle.std.proofs.Common.{Ok, refl, ap, ◌∙◌, subst, rules}
+use Rattle.std.proofs.Common.{Ok, refl, subst}
 use Rattle.store.specs.Meaning.{Meaning}
 use Rattle.store.specs.Memory.{memory_means}
 use Rattle.store.specs.Scripted.{scripted}

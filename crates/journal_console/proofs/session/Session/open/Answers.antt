@@ -1,4 +1,4 @@
-use Rattle.std.proofs.Common.{List, sym, refl, ◌∙◌, subst, rules}
+use Rattle.std.proofs.Common.{List, sym, refl, ◌∙◌, subst}
 use Rattle.stations.specs.declared.station.Station.{Station}
 use Rattle.stations.specs.Stations.{Finds}
 use Rattle.journal_console.proofs.Journeys.{not_found, opened_on}
