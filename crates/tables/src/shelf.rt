@@ -1,6 +1,6 @@
 //! Rows in memory that is reserved when the shelf is made, and the order of those that stand.
 ghost use Rattle.std.specs.Prelude.{◌≡◌, ◌+◌, ◌*◌, ◌≤◌, length, vec_len, vec_capacity};
-ghost use Rattle.rows.specs.Sizes.{weight, size as «type_size», total};
+ghost use Rattle.rows.specs.Sizes.{weight, size as row_size, total};
 ghost use Rattle.tables.specs.Ranks.{Ascending};
 ghost use Rattle.tables.specs.Slots.{Digits, Each, Inside, Keyed, Marked, Placed, Valued, standing};
 
@@ -33,5 +33,5 @@ pub(crate) struct Shelf {
     ghost valued: { Each Valued slots.items },
     ghost ordered: { Ascending (standing text.items slots.items ranks.items) },
     ghost weighed: { 2 * total weight (standing text.items slots.items ranks.items) ≤ length text.items },
-    ghost sized: { size ≡ total «type_size» (standing text.items slots.items ranks.items) },
+    ghost sized: { size ≡ total row_size (standing text.items slots.items ranks.items) },
 }

@@ -1,7 +1,7 @@
 //! Putting rows on a shelf.
 ghost use Rattle.std.specs.Prelude.{◌≡◌, ◌+◌, ◌-◌, ◌≤◌, false, [], ◌∷◌, ◌++◌, Ok as Granted};
 ghost use Rattle.rows.specs.Entries.{row_of};
-ghost use Rattle.rows.specs.Sizes.{size as «type_size», weight as weight_of};
+ghost use Rattle.rows.specs.Sizes.{size as row_size, weight as weight_of};
 ghost use Rattle.mem_table.specs.Calls.{lacks as lacks_room, Put};
 ghost use Rattle.tables.specs.Ranks.{At, Between};
 ghost use Rattle.tables.specs.Shelves.{holds, order_of, rows_of, shelf_means};
@@ -12,9 +12,9 @@ use rows::RowEntry;
 
 /// The size of all rows once a row is put, and one of size `old` goes.
 fn size_after(size: usize, row: RowEntry<'_>, old: usize) -> usize
-    requires bound { size + «type_size» (row_of row) ≤ 40000000 }
-    requires old { old ≤ size + «type_size» (row_of row) }
-    ensures { result ≡ size + «type_size» (row_of row.entry) - old }
+    requires bound { size + row_size (row_of row) ≤ 40000000 }
+    requires old { old ≤ size + row_size (row_of row) }
+    ensures { result ≡ size + row_size (row_of row.entry) - old }
 {
     size + row.estimated_size() - old
 }
