@@ -2,33 +2,33 @@
 ghost use Rattle.std.specs.Prelude.{◌≡◌};
 ghost use Rattle.causes.specs.Causes.{name as named, number as numbered};
 
-/// A cause, by its name.
-#[derive(Clone, Copy)]
+/// A cause, by its name and its number.
+#[derive(Clone, Copy, PartialEq, Eq, Debug)]
 pub enum Cause {
-    Exists,
-    Missing,
-    NoRoom,
-    TooLong,
-    Short,
-    Unavailable,
-    Fenced,
-    WalTruncated,
-    Closed,
-    DataError,
-    InternalError,
-    InvalidSSTBatchSize,
-    InvalidDBState,
-    IdsSpent,
-    Attempts,
-    OutOfOrder,
-    WriterFull,
-    Busy,
-    TicketsSpent,
-    NotMine,
-    TableInUse,
-    TableFull,
-    NotReplayed,
-    BlockSize,
+    Exists = 1,
+    Missing = 2,
+    NoRoom = 3,
+    TooLong = 4,
+    Short = 5,
+    Unavailable = 6,
+    Fenced = 7,
+    WalTruncated = 8,
+    Closed = 9,
+    DataError = 10,
+    InternalError = 11,
+    InvalidSSTBatchSize = 12,
+    InvalidDBState = 13,
+    IdsSpent = 14,
+    Attempts = 15,
+    OutOfOrder = 16,
+    WriterFull = 17,
+    Busy = 18,
+    TicketsSpent = 19,
+    NotMine = 20,
+    TableInUse = 21,
+    TableFull = 22,
+    NotReplayed = 23,
+    BlockSize = 24,
 }
 
 impl Cause {
@@ -36,32 +36,7 @@ impl Cause {
     pub fn number(self) -> u8
         ensures { result ≡ numbered self }
     {
-        match self {
-            Cause::Exists => 1,
-            Cause::Missing => 2,
-            Cause::NoRoom => 3,
-            Cause::TooLong => 4,
-            Cause::Short => 5,
-            Cause::Unavailable => 6,
-            Cause::Fenced => 7,
-            Cause::WalTruncated => 8,
-            Cause::Closed => 9,
-            Cause::DataError => 10,
-            Cause::InternalError => 11,
-            Cause::InvalidSSTBatchSize => 12,
-            Cause::InvalidDBState => 13,
-            Cause::IdsSpent => 14,
-            Cause::Attempts => 15,
-            Cause::OutOfOrder => 16,
-            Cause::WriterFull => 17,
-            Cause::Busy => 18,
-            Cause::TicketsSpent => 19,
-            Cause::NotMine => 20,
-            Cause::TableInUse => 21,
-            Cause::TableFull => 22,
-            Cause::NotReplayed => 23,
-            Cause::BlockSize => 24,
-        }
+        self as u8
     }
 
     /// The name of the cause.

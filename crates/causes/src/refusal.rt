@@ -6,7 +6,7 @@ use super::Cause;
 use std::fmt;
 
 /// The values that a cause returns.
-#[derive(Clone, Copy)]
+#[derive(Clone, Copy, PartialEq, Eq, Debug)]
 pub enum Values {
     None,
     One(u64),
@@ -15,7 +15,7 @@ pub enum Values {
 }
 
 /// A refusal: its cause, and the values that come with it.
-#[derive(Clone, Copy)]
+#[derive(Clone, Copy, PartialEq, Eq, Debug)]
 pub struct Refusal {
     pub cause: Cause,
     pub values: Values,

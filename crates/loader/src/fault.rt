@@ -1,7 +1,10 @@
 //! Why a text is not loaded.
 ghost use Rattle.std.specs.Prelude.{◌≡◌};
+ghost use Rattle.causes.specs.Causes.{says};
+ghost use Rattle.loader.specs.Loads.{fault};
 ghost use Rattle.loader.specs.declared.fault.LoadFault.TheVariants.{Damaged as WasDamaged, Table as WasTable};
 
+use causes::{Cause, Refusal, Values};
 use mem_table::TableFault;
 use rows::Damage;
 
@@ -27,5 +30,19 @@ impl From<TableFault> for LoadFault {
 
     fn from(e: TableFault) -> LoadFault {
         LoadFault::Table(e)
+    }
+}
+
+impl From<LoadFault> for Refusal {
+    ghost from_gives = { λ e r. says r ≡ fault e };
+
+    fn from(fault: LoadFault) -> Refusal {
+        match fault {
+            LoadFault::Damaged(damage) => Refusal {
+                cause: Cause::DataError,
+                values: Values::Three(0, damage.line as u64, damage.place as u64),
+            },
+            LoadFault::Table(fault) => Refusal::from(fault),
+        }
     }
 }

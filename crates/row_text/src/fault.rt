@@ -1,7 +1,10 @@
 //! Why a text is refused.
 ghost use Rattle.std.specs.Prelude.{◌≡◌};
+ghost use Rattle.causes.specs.Causes.{says};
+ghost use Rattle.row_text.specs.Checks.{fault};
 ghost use Rattle.row_text.specs.declared.fault.CheckFault.TheVariants.{Damaged as WasDamaged, BlockSize as WasBlockSize};
 
+use causes::{Cause, Refusal, Values};
 use rows::{BadBlockSize, Damage};
 
 /// Why `check` refuses.
@@ -26,5 +29,20 @@ impl From<BadBlockSize> for CheckFault {
 
     fn from(e: BadBlockSize) -> CheckFault {
         CheckFault::BlockSize(e.0)
+    }
+}
+
+impl From<CheckFault> for Refusal {
+    ghost from_gives = { λ e r. says r ≡ fault e };
+
+    fn from(fault: CheckFault) -> Refusal {
+        let (cause, values) = match fault {
+            CheckFault::Damaged(damage) => (
+                Cause::DataError,
+                Values::Three(0, damage.line as u64, damage.place as u64),
+            ),
+            CheckFault::BlockSize(size) => (Cause::BlockSize, Values::One(size)),
+        };
+        Refusal { cause, values }
     }
 }

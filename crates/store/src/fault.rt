@@ -1,5 +1,11 @@
 //! The causes for which a store refuses a call.
 
+ghost use Rattle.std.specs.Prelude.{◌≡◌};
+ghost use Rattle.causes.specs.Causes.{says};
+ghost use Rattle.store.specs.Said.{fault};
+
+use causes::{Cause, Refusal, Values};
+
 /// Why a store refused a call, with the value that the cause returns.
 #[derive(Clone, Copy, PartialEq, Eq, Debug)]
 pub enum StoreFault {
@@ -15,4 +21,23 @@ pub enum StoreFault {
     Short(usize),
     /// 6: the store could not say how the call for this id went.
     Unavailable(u64),
+}
+
+impl From<StoreFault> for Refusal {
+    ghost from_gives = { λ e r. says r ≡ fault e };
+
+    fn from(fault: StoreFault) -> Refusal {
+        let (cause, value) = match fault {
+            StoreFault::Exists(id) => (Cause::Exists, id),
+            StoreFault::Missing(id) => (Cause::Missing, id),
+            StoreFault::NoRoom(id) => (Cause::NoRoom, id),
+            StoreFault::TooLong(id) => (Cause::TooLong, id),
+            StoreFault::Short(length) => (Cause::Short, length as u64),
+            StoreFault::Unavailable(id) => (Cause::Unavailable, id),
+        };
+        Refusal {
+            cause,
+            values: Values::One(value),
+        }
+    }
 }

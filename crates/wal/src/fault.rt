@@ -1,8 +1,11 @@
 //! The causes for which the journal refuses a call.
 
 ghost use Rattle.std.specs.Prelude.{◌≡◌};
+ghost use Rattle.causes.specs.Causes.{says};
+ghost use Rattle.wal.specs.Said.{fault};
 ghost use Rattle.wal.specs.declared.fault.WalFault.TheVariants.{Store};
 
+use causes::{Cause, Refusal, Values};
 use store::StoreFault;
 
 /// Why the journal refused a call, with the values that the cause returns.
@@ -58,5 +61,42 @@ impl From<StoreFault> for WalFault {
 
     fn from(fault: StoreFault) -> WalFault {
         WalFault::Store(fault)
+    }
+}
+
+impl From<WalFault> for Refusal {
+    ghost from_gives = { λ e r. says r ≡ fault e };
+
+    fn from(fault: WalFault) -> Refusal {
+        let (cause, values) = match fault {
+            WalFault::Store(fault) => return Refusal::from(fault),
+            WalFault::Fenced(id) => (Cause::Fenced, Values::One(id)),
+            WalFault::WalTruncated(id) => (Cause::WalTruncated, Values::One(id)),
+            WalFault::Closed => (Cause::Closed, Values::None),
+            WalFault::DataError { file, line, place } => (
+                Cause::DataError,
+                Values::Three(file, line as u64, place as u64),
+            ),
+            WalFault::InternalError {
+                id,
+                least,
+                greatest,
+            } => (Cause::InternalError, Values::Three(id, least, greatest)),
+            WalFault::InvalidSSTBatchSize(window) => {
+                (Cause::InvalidSSTBatchSize, Values::One(window))
+            }
+            WalFault::InvalidDBState(start) => (Cause::InvalidDBState, Values::One(start)),
+            WalFault::IdsSpent(id) => (Cause::IdsSpent, Values::One(id)),
+            WalFault::Attempts(id) => (Cause::Attempts, Values::One(id)),
+            WalFault::OutOfOrder(line) => (Cause::OutOfOrder, Values::One(line as u64)),
+            WalFault::WriterFull(over) => (Cause::WriterFull, Values::One(over as u64)),
+            WalFault::Busy { tickets, requests } => {
+                (Cause::Busy, Values::Two(tickets as u64, requests as u64))
+            }
+            WalFault::TicketsSpent => (Cause::TicketsSpent, Values::One(65_535)),
+            WalFault::NotReplayed(fence) => (Cause::NotReplayed, Values::One(fence)),
+            WalFault::BlockSize(size) => (Cause::BlockSize, Values::One(size)),
+        };
+        Refusal { cause, values }
     }
 }

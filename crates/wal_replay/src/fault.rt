@@ -1,8 +1,11 @@
 //! The causes for which a replay refuses.
 
 ghost use Rattle.std.specs.Prelude.{◌≡◌};
+ghost use Rattle.causes.specs.Causes.{says};
+ghost use Rattle.wal_replay.specs.Said.{fault};
 ghost use Rattle.wal_replay.specs.declared.fault.ReplayFault.TheVariants.{Wal};
 
+use causes::{Cause, Refusal, Values};
 use wal::WalFault;
 
 /// Why a replay refused a call, with the values that the cause returns.
@@ -21,5 +24,21 @@ impl From<WalFault> for ReplayFault {
 
     fn from(fault: WalFault) -> ReplayFault {
         ReplayFault::Wal(fault)
+    }
+}
+
+impl From<ReplayFault> for Refusal {
+    ghost from_gives = { λ e r. says r ≡ fault e };
+
+    fn from(fault: ReplayFault) -> Refusal {
+        let (cause, value) = match fault {
+            ReplayFault::Wal(fault) => return Refusal::from(fault),
+            ReplayFault::TableInUse(rows) => (Cause::TableInUse, rows as u64),
+            ReplayFault::TableFull(id) => (Cause::TableFull, id),
+        };
+        Refusal {
+            cause,
+            values: Values::One(value),
+        }
     }
 }
