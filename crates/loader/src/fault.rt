@@ -42,7 +42,7 @@ impl From<LoadFault> for Refusal {
                 cause: Cause::DataError,
                 values: Values::Three(0, damage.line as u64, damage.place as u64),
             },
-            LoadFault::Table(fault) => Refusal::from(fault),
+            LoadFault::Table(refused) => Refusal::from(refused),
         }
     }
 }

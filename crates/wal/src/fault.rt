@@ -69,7 +69,7 @@ impl From<WalFault> for Refusal {
 
     fn from(fault: WalFault) -> Refusal {
         let (cause, values) = match fault {
-            WalFault::Store(fault) => return Refusal::from(fault),
+            WalFault::Store(refused) => return Refusal::from(refused),
             WalFault::Fenced(id) => (Cause::Fenced, Values::One(id)),
             WalFault::WalTruncated(id) => (Cause::WalTruncated, Values::One(id)),
             WalFault::Closed => (Cause::Closed, Values::None),

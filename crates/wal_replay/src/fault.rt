@@ -32,7 +32,7 @@ impl From<ReplayFault> for Refusal {
 
     fn from(fault: ReplayFault) -> Refusal {
         let (cause, value) = match fault {
-            ReplayFault::Wal(fault) => return Refusal::from(fault),
+            ReplayFault::Wal(refused) => return Refusal::from(refused),
             ReplayFault::TableInUse(rows) => (Cause::TableInUse, rows as u64),
             ReplayFault::TableFull(id) => (Cause::TableFull, id),
         };
