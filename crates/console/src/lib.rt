@@ -4,6 +4,5 @@
 mod arguments;
 pub mod command;
 pub mod options;
-pub mod run;
 pub mod session;
 mod setup;

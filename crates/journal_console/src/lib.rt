@@ -1,5 +1,4 @@
 //! Performs the calls of a script and prints their answers.
 #![tactic(auto)]
 
-pub mod run;
 pub mod session;

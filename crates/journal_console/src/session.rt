@@ -16,6 +16,7 @@ use store::{FaultScript, Mark, MemoryStore, Store};
 
 mod calls;
 mod journal;
+mod printing;
 mod setting;
 
 /// What the calls of a script work on.

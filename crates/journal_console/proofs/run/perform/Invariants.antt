@@ -1,6 +1,0 @@
-use Rattle.std.proofs.Common.{length}
-use Rattle.script.specs.Scripts.{left}
-use Rattle.journal_console.proofs.run.perform.Given as goal
-
-abbrev pub decreases-loop-call : goal.decreases-loop-call
-decreases-loop-call g l = length (left l.script)

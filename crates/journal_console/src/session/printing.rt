@@ -1,0 +1,61 @@
+//! What a session prints of its calls.
+use super::Session;
+use journal_answers::answer::Answer;
+use journal_answers::page::put_page;
+use running::{Console, Failure};
+use script::call::Call;
+use script::reason::ScriptError;
+use setups::stop::Stop;
+use std::alloc::{AllocError, Global};
+use std::io::Write;
+
+impl Session {
+    /// Prints the text of a file that was read, or the rows of a table that was loaded.
+    fn print_page<W: Write>(&self, answer: Answer, out: &mut W) -> Result<(), Failure> {
+        let text = match answer {
+            Answer::Text(length) => self.page.get(0..length),
+            Answer::Loaded(_) => Some(self.lines.as_slice()),
+            _ => None,
+        };
+        if let Some(text) = text {
+            let mut lines = Vec::new(self.heap);
+            put_page(text, &mut lines)?;
+            out.write_all(lines.as_slice())?;
+        }
+        Ok(())
+    }
+}
+
+impl Console for Session {
+    fn begin(heap: Global) -> Result<Session, AllocError> {
+        Session::new(heap)
+    }
+
+    fn answer<W: Write>(&mut self, call: Call<'_>, out: &mut W) -> Result<(), Failure> {
+        match self.perform(call) {
+            Ok(Some(answer)) => {
+                out.write_all(call.words)?;
+                writeln!(out, " -> {answer}")?;
+                self.print_page(answer, out)
+            }
+            Ok(None) => Ok(()),
+            Err(Stop::Script(reason)) => Err(Failure::Script(ScriptError {
+                line: call.line,
+                reason,
+            })),
+            Err(Stop::NoMemory) => Err(Failure::NoMemory),
+        }
+    }
+
+    fn close<W: Write>(&self, out: &mut W) -> Result<(), Failure> {
+        let account = self.account();
+        writeln!(out, "{account}")?;
+        for station in self.stations.as_slice() {
+            let fence = station.opening.fence();
+            out.write_all(b"station ")?;
+            out.write_all(station.name.as_bytes())?;
+            writeln!(out, ": fence {fence}")?;
+        }
+        Ok(())
+    }
+}
