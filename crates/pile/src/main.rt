@@ -8,7 +8,7 @@ ghost use Rattle.store.specs.Scripted.{marks_left};
 ghost use Rattle.store.specs.declared.marks.Mark.TheVariants.{Fair, Lost, Late};
 
 use std::alloc::{AllocError, Global};
-use store::{FaultScript, Mark, MemoryStore, Store};
+use store::{FaultScript, MOST_BYTES, Mark, MemoryStore, Store};
 
 /// Two scripts over a store with room for four files and 16,389 bytes.
 fn piled(heap: Global) -> Result<FaultScript<FaultScript<MemoryStore>>, AllocError>
@@ -65,27 +65,23 @@ fn bounds<S: Store>(rt: &HostRuntime, store: &mut S) -> anyhow::Result<()> {
     println!(rt; "exact bounds")?;
     let longer = [b'a'; 16385];
     put(rt, store, 8, &longer)?;
-    put(rt, store, 8, &longer[0..16384])?;
+    put(rt, store, 8, &longer[..MOST_BYTES])?;
     put(rt, store, 9, b"b")?;
-    put(rt, store, 18446744073709551615, b"")?;
+    put(rt, store, u64::MAX, b"")?;
     put(rt, store, 10, b"")?;
     put(rt, store, 0, b"")?;
     put(rt, store, 0, &longer)?;
     head(rt, store, 8)?;
-    head(rt, store, 18446744073709551615)?;
-    head(rt, store, 18446744073709551614)?;
+    head(rt, store, u64::MAX)?;
+    head(rt, store, u64::MAX - 1)?;
     read(rt, store, 8)?;
-    read(rt, store, 18446744073709551615)?;
+    read(rt, store, u64::MAX)?;
     read(rt, store, 7)
 }
 
-fn run(rt: &HostRuntime) -> anyhow::Result<()> {
-    let mut store = piled(rt.alloc())?;
-    marked(rt, &mut store)?;
-    let mut memory = store.into_inner().into_inner();
-    bounds(rt, &mut memory)
-}
-
 fn main(rt: HostRuntime) -> anyhow::Result<()> {
-    run(&rt)
+    let mut store = piled(rt.alloc())?;
+    marked(&rt, &mut store)?;
+    let mut memory = store.into_inner().into_inner();
+    bounds(&rt, &mut memory)
 }

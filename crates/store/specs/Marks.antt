@@ -1,13 +1,8 @@
 -- The marks of a fault script, the next one first.
-use Rattle.std.specs.Prelude.{Bool, true, false, List, [], ◌∷◌, take, drop, Some, None, Option}
+use Rattle.std.specs.Prelude.{Bool, true, false, List, [], ◌∷◌, Some, None, Option}
 use Rattle.std.specs.Option.{unwrap_or}
 use Rattle.store.specs.declared.marks.Mark.{Mark}
 use Rattle.store.specs.declared.marks.Mark.TheVariants.{Fair, Lost, Late}
-use Rattle.store.specs.declared.marks.Marks.{Marks}
-
--- the marks that are not used up
-abbrev pub unused : Marks → List Mark
-unused m = drop m.next (take m.end m.marks)
 
 abbrev pub first_mark : List Mark → Option Mark
 first_mark [] = None

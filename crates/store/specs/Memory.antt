@@ -6,7 +6,7 @@ use Rattle.store.specs.declared.memory.MemoryStore.{MemoryStore}
 
 abbrev pub memory_holds : MemoryStore → Held
 memory_holds s = record {
-  files = files_in (vec_items s.index) (vec_items s.text);
+  files = files_in (vec_items s.index.extents) (vec_items s.text);
   places = s.places;
   bytes = s.bytes;
 }

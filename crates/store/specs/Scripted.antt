@@ -8,11 +8,11 @@ use Rattle.causes.specs.Said.{refused}
 use Rattle.store.specs.Said.{said, said_length}
 use Rattle.store.specs.Meaning.{Meaning}
 use Rattle.store.specs.Calls.{Put, Head, Read}
-use Rattle.store.specs.Marks.{unused, next_mark, one_used, all_fair}
+use Rattle.store.specs.Marks.{next_mark, one_used, all_fair}
 
 -- the marks that a script has left
 abbrev pub marks_left : {S : Type 0} → FaultScript S → List Mark
-marks_left s = unused s.script
+marks_left s = s.script
 
 -- what the store below means, and steady only where no mark that is left is lost or late
 abbrev pub scripted : {S : Type 0} → (S → Meaning) → FaultScript S → Meaning

@@ -5,6 +5,9 @@ ghost use Rattle.store.specs.Calls.{Put, Head, Read};
 
 use super::StoreFault;
 
+/// The most bytes that a file has.
+pub const MOST_BYTES: usize = 16384;
+
 /// A store of numbered files, each written once.
 pub trait Store {
     ghost means: { Self → Meaning };

@@ -1,52 +1,52 @@
-//! Search and insertion in an index that is kept in the order of its ids.
+//! An index of extents, kept in the order of their ids.
 
-ghost use Rattle.std.specs.Prelude.{◌≡◌, ℕ, ◌+◌, ◌<◌, if◌then◌else◌, Some, vec_len, vec_capacity, MatchResult, nat_eq};
+ghost use Rattle.std.specs.Prelude.{◌≡◌, ℕ, ◌+◌, ◌<◌, ◌≤◌, if◌then◌else◌, [], Some, vec_len, vec_capacity, MatchResult, IfOk, nat_eq};
 ghost use Rattle.store.specs.Index.{extent_of, Ascending, Present, Absent};
 
 use super::extent::Extent;
+use std::alloc::{AllocError, Global};
 
-/// The place of an id, or the place where it would stand.
-pub(crate) fn locate(index: &[Extent], id: u64) -> Result<usize, usize>
-    requires { Ascending index.now }
-    ensures { MatchResult result (λ n. Present index.now id n) (λ n. Absent index.now id n) }
-{
-    let mut low = 0;
-    let mut high = index.len();
-    while low < high {
-        let middle = low + (high - low) / 2;
-        let found = index[middle].id;
-        if found == id {
-            return Ok(middle);
-        }
-        if found < id {
-            low = middle + 1;
-        } else {
-            high = middle;
-        }
-    }
-    Err(low)
+/// Extents in the order of their ids.
+// A sorted vector, since a map would ask for memory in a call: here it is all reserved at the making.
+#[derive(Drop)]
+pub struct Index {
+    extents: Vec<Extent>,
+    ghost ordered: { Ascending extents.items },
 }
 
-/// The extent of an id.
-pub(crate) fn find(index: &[Extent], id: u64) -> Option<Extent>
-    requires { Ascending index.now }
-    ensures { result ≡ extent_of index.now id }
-{
-    match locate(index, id) {
-        Ok(n) => Some(index[n]),
-        Err(_) => None,
+impl Index {
+    /// An empty index with memory for so many extents.
+    pub fn with_capacity(heap: Global, places: usize) -> Result<Index, AllocError>
+        ensures empty { IfOk result (λ x. x.extents.items ≡ []) }
+        ensures reserved { IfOk result (λ x. places ≤ vec_capacity x.extents) }
+    {
+        let extents = Vec::with_capacity(heap, places)?;
+        Ok(Index { extents })
     }
-}
 
-/// Inserts an extent at its place, for which memory is reserved.
-pub(crate) fn insert(index: &mut Vec<Extent>, n: usize, extent: Extent)
-    requires ordered { Ascending index.old.items }
-    requires absent { Absent index.old.items extent.id n }
-    requires reserved { vec_len index.old < vec_capacity index.old }
-    ensures len { vec_len index.new ≡ vec_len index.old + 1 }
-    ensures capacity { vec_capacity index.new ≡ vec_capacity index.old }
-    ensures ordered { Ascending index.new.items }
-    ensures finds { (k : ℕ) → extent_of index.new.items k ≡ (if nat_eq k extent.id then Some extent else extent_of index.old.items k) }
-{
-    let _ = index.insert(n, extent);
+    /// The place of an id, or the place where it would stand.
+    pub fn locate(&self, id: u64) -> Result<usize, usize>
+        ensures { MatchResult result (λ n. Present self.now.extents.items id n) (λ n. Absent self.now.extents.items id n) }
+    {
+        self.extents.binary_search_by_key(&id, |extent| extent.id)
+    }
+
+    /// The extent of an id.
+    pub fn find(&self, id: u64) -> Option<Extent>
+        ensures { result ≡ extent_of self.now.extents.items id }
+    {
+        let n = self.locate(id).ok()?;
+        Some(self.extents[n])
+    }
+
+    /// Inserts an extent at its place, for which memory is reserved.
+    pub fn insert(&mut self, n: usize, extent: Extent)
+        requires absent { Absent self.old.extents.items extent.id n }
+        requires reserved { vec_len self.old.extents < vec_capacity self.old.extents }
+        ensures len { vec_len self.new.extents ≡ vec_len self.old.extents + 1 }
+        ensures capacity { vec_capacity self.new.extents ≡ vec_capacity self.old.extents }
+        ensures finds { (k : ℕ) → extent_of self.new.extents.items k ≡ (if nat_eq k extent.id then Some extent else extent_of self.old.extents.items k) }
+    {
+        let _ = self.extents.insert(n, extent);
+    }
 }

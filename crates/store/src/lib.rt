@@ -11,7 +11,7 @@ mod marks;
 mod memory;
 mod script;
 
-pub use calls::Store;
+pub use calls::{MOST_BYTES, Store};
 pub use fault::StoreFault;
 pub use laws::store_stands;
 pub use marks::Mark;

@@ -2,16 +2,21 @@
 
 ghost use Rattle.std.specs.Prelude.{◌≡◌, take};
 ghost use Rattle.store.specs.Calls.{Put, Head, Read};
+ghost use Rattle.store.specs.Marks.{next_mark, one_used};
 ghost use Rattle.store.specs.Scripted.{marks_left, scripted, ScriptedPut, ScriptedHead, ScriptedRead};
 
-use super::marks::{Mark, Marks};
-use super::{Store, StoreFault};
+use super::{Mark, Store, StoreFault};
+use arrayvec::{ArrayVec, IntoIter};
+
+/// The most marks that a script keeps.
+const LIMIT: usize = 64;
 
 /// A store under a script of marks, of which each call uses one.
+// No model: what it means rests on what the store below means, which a model's value cannot name.
 #[derive(Drop)]
 pub struct FaultScript<S> {
     below: S,
-    script: Marks,
+    script: IntoIter<Mark, LIMIT>,
 }
 
 impl<S: Store> FaultScript<S> {
@@ -20,8 +25,12 @@ impl<S: Store> FaultScript<S> {
         ensures below { result.below ≡ below }
         ensures marks { marks_left result ≡ take 64 marks.now }
     {
-        let script = Marks::new(marks);
-        FaultScript { below, script }
+        let mut kept = ArrayVec::new();
+        let _ = kept.try_extend_from_slice(&marks[..marks.len().min(LIMIT)]);
+        FaultScript {
+            below,
+            script: kept.into_iter(),
+        }
     }
 
     /// The store below.
@@ -38,8 +47,18 @@ impl<S: Store> FaultScript<S> {
         let FaultScript { below, script: _ } = self;
         below
     }
+
+    /// The mark of one call, which it uses up.
+    fn draw(&mut self) -> Mark
+        ensures value { result ≡ next_mark (marks_left self.old) }
+        ensures after { marks_left self.new ≡ one_used (marks_left self.old) }
+        ensures below { self.new.below ≡ self.old.below }
+    {
+        self.script.next().unwrap_or_default()
+    }
 }
 
+// `head` and `read` go alike, and each is shorter than a call of one function for both, with its closure's clauses.
 impl<S: Store> Store for FaultScript<S> {
     ghost means = { scripted S.Store.means };
 
@@ -47,7 +66,7 @@ impl<S: Store> Store for FaultScript<S> {
         ensures answers { Put (scripted S.Store.means self.old) (scripted S.Store.means self.new) id text.now result }
         ensures script { ScriptedPut S.Store.means self.old self.new id text.now result }
     {
-        match self.script.draw() {
+        match self.draw() {
             Mark::Fair => self.below.put(id, text),
             Mark::Lost => Err(StoreFault::Unavailable(id)),
             Mark::Late => {
@@ -61,7 +80,7 @@ impl<S: Store> Store for FaultScript<S> {
         ensures answers { Head (scripted S.Store.means self.old) (scripted S.Store.means self.new) id result }
         ensures script { ScriptedHead S.Store.means self.old self.new id result }
     {
-        match self.script.draw() {
+        match self.draw() {
             Mark::Fair => self.below.head(id),
             Mark::Lost | Mark::Late => Err(StoreFault::Unavailable(id)),
         }
@@ -71,7 +90,7 @@ impl<S: Store> Store for FaultScript<S> {
         ensures answers { Read (scripted S.Store.means self.old) (scripted S.Store.means self.new) id buffer.old buffer.new result }
         ensures script { ScriptedRead S.Store.means self.old self.new id buffer.old buffer.new result }
     {
-        match self.script.draw() {
+        match self.draw() {
             Mark::Fair => self.below.read(id, buffer),
             Mark::Lost | Mark::Late => Err(StoreFault::Unavailable(id)),
         }

@@ -8,7 +8,7 @@ fn longest_text(rt: HostRuntime) -> Result<(), Fail> {
     let mut store = MemoryStore::new(rt.alloc(), 2, 32768)?;
     let text = [7u8; 16385];
     assert_eq!(rt; store.put(1, &text), Err(StoreFault::TooLong(1)));
-    assert_eq!(rt; store.put(1, &text[0..16384]), Ok(()));
+    assert_eq!(rt; store.put(1, &text[..16384]), Ok(()));
     assert_eq!(rt; store.head(1), Ok(16384));
     Ok(())
 }
@@ -43,15 +43,15 @@ fn no_room_at_all(rt: HostRuntime) -> Result<(), Fail> {
 #[test]
 fn exact_buffer(rt: HostRuntime) -> Result<(), Fail> {
     let mut store = MemoryStore::new(rt.alloc(), 1, 3)?;
-    assert_eq!(rt; store.put(18446744073709551615, b"abc"), Ok(()));
+    assert_eq!(rt; store.put(u64::MAX, b"abc"), Ok(()));
     let mut short = [1u8; 2];
     assert_eq!(rt;
-        store.read(18446744073709551615, &mut short),
+        store.read(u64::MAX, &mut short),
         Err(StoreFault::Short(3))
     );
     assert_eq!(rt; short, [1, 1]);
     let mut exact = [1u8; 3];
-    assert_eq!(rt; store.read(18446744073709551615, &mut exact), Ok(3));
+    assert_eq!(rt; store.read(u64::MAX, &mut exact), Ok(3));
     assert_eq!(rt; exact, [97, 98, 99]);
     Ok(())
 }

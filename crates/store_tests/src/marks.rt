@@ -7,13 +7,8 @@ use store::{FaultScript, Mark, MemoryStore, Store, StoreFault};
 fn lost(heap: std::alloc::Global, marks: &[Mark]) -> Result<usize, std::alloc::AllocError> {
     let memory = MemoryStore::new(heap, 1, 1)?;
     let mut store = FaultScript::new(memory, marks);
-    let mut n = 0usize;
-    for _ in 0..70 {
-        if store.head(0) == Err(StoreFault::Unavailable(0)) {
-            n = n.saturating_add(1);
-        }
-    }
-    Ok(n)
+    let refused = Err(StoreFault::Unavailable(0));
+    Ok((0..70).filter(|_| store.head(0) == refused).count())
 }
 
 #[test]

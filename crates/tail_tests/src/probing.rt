@@ -7,8 +7,8 @@ use wal::{WalFault, last_seen_wal_id};
 /// Fair marks, of which one is lost: the one after so many.
 pub fn lost_after(calls: usize) -> [Mark; 64] {
     let mut marks = [Mark::Fair; 64];
-    if calls < 64 {
-        marks[calls] = Mark::Lost;
+    if let Some(mark) = marks.get_mut(calls) {
+        *mark = Mark::Lost;
     }
     marks
 }
@@ -25,10 +25,8 @@ pub fn filled(heap: Global, n: u64) -> Result<MemoryStore, AllocError> {
 /// A store with empty files at the first n powers of two.
 pub fn powers(heap: Global, n: u32) -> Result<MemoryStore, AllocError> {
     let mut store = MemoryStore::new(heap, 64, 0)?;
-    let mut id = 1u64;
-    for _ in 0..n {
-        let _ = store.put(id, b"");
-        id = id.saturating_mul(2);
+    for exp in 0..n {
+        let _ = store.put(1 << exp.min(63), b"");
     }
     Ok(store)
 }

@@ -7,4 +7,4 @@ mod tail;
 
 pub use fault::WalFault;
 pub use laws::{compare_calls, head_calls, tail_stands};
-pub use tail::last_seen_wal_id;
+pub use tail::{LAST_ID, last_seen_wal_id};

@@ -18,13 +18,12 @@ invariant_of-self c =
     record {
       indexed = omega (arith, s.indexed, c.requires.place, c.insert.ensures.len, c.insert.ensures.capacity);
       spare = omega (arith, s.spare, c.requires.room, long, c.extend_from_slice.ensures.capacity);
-      ordered = c.insert.ensures.ordered;
-      inside = inside_grown (vec_items s.index) (vec_items c.insert.new.index) _ c.insert.ensures.finds (vec_len s.text) (vec_len c.extend_from_slice.new.self) s.inside (omega (arith, long)) (omega (arith, long, c.len-start.ensures)) c.requires.limit;
+      inside = inside_grown (vec_items s.index.extents) (vec_items c.insert.new.self.extents) _ c.insert.ensures.finds (vec_len s.text) (vec_len c.extend_from_slice.new.self) s.inside (omega (arith, long)) (omega (arith, long, c.len-start.ensures)) c.requires.limit;
     }
 
 pub returns : goal.returns
 returns c =
     let s = c.args.self.now in
-    let p = files_grown (vec_items s.index) (vec_items c.insert.new.index) _ c.insert.ensures.finds (vec_items s.text) (vec_items c.extend_from_slice.new.self) c.args.text.now (vec_len s.text) s.inside s.text.ok.0 c.len-start.ensures refl (appended (goal.at.returns c).After-insert).0 in
+    let p = files_grown (vec_items s.index.extents) (vec_items c.insert.new.self.extents) _ c.insert.ensures.finds (vec_items s.text) (vec_items c.extend_from_slice.new.self) c.args.text.now (vec_len s.text) s.inside s.text.ok.0 c.len-start.ensures refl (appended (goal.at.returns c).After-insert).0 in
     let H : (ℕ → Option (List ℕ)) → Held = λ f. record { files = f; places = s.places - 1; bytes = s.bytes - length c.args.text.now } in
     ap H p

@@ -1,22 +1,24 @@
 use Rattle.std.proofs.Common.{◌≡◌, ℕ, ◌+◌, ◌-◌, ◌/◌, ◌^◌, ◌<◌, ◌≤◌, true, false, sym, ap, ◌∙◌, subst, inl, inr, arith}
+use Rattle.std.proofs.lemmas.Nat.{pow_below}
 use Rattle.wal.specs.Tails.{behind}
 use Rattle.wal.proofs.Keeping.{same_refl, same_trans, tells_back, tells_ok, tells_err, pair_is, carried}
 use Rattle.wal.proofs.Halving.{Between, started, more, done, answer, asks_middle, up, down, offset_at, halves_at}
-use Rattle.wal.proofs.tail.halve.Goals as goal
+use Rattle.wal.proofs.tail.Start.halve.Goals as goal
 
 pub loop-left-init : goal.loop-left-init
 loop-left-init g c =
     let n = c.args.absent - 1 in
-    let p = behind (g.S.Store.means c.args.store.now).held c.args.start in
+    let p = behind (g.S.Store.means c.args.store.now).held c.args.self.id in
     let e : c.args.absent ≡ n + 1 = omega arith in
-    let b = started p n (c.power-left.result + 1) c.power-right.result (ap (λ (k : ℕ). k + 1) c.power-left.ensures.value) (c.power-right.ensures.value ∙ ap (λ (k : ℕ). 2 ^ k) e) in
+    let b = started p n (c.pow-left.result + 1) c.pow-right.result (ap (λ (k : ℕ). k + 1) c.pow-left.ensures) (c.pow-right.ensures ∙ ap (λ (k : ℕ). 2 ^ k) e) in
     let z : n ≡ n - 0 = omega arith in
-    (omega arith, omega arith, same_refl _, subst (λ (j : ℕ). Between p n (c.power-left.result + 1) c.power-right.result j) z b)
+    let r : 2 ^ c.args.absent < 2 ^ 48 = pow_below c.args.absent 48 c.requires.below in
+    (omega arith, omega arith, same_refl _, subst (λ (j : ℕ). Between p n (c.pow-left.result + 1) c.pow-right.result j) z b)
 
 pub returns-in_err-wal_object_exists : goal.returns-in_err-wal_object_exists
 returns-in_err-wal_object_exists g c =
     let a = g.S.Store.means c.args.store.now in
-    let p = behind a.held c.args.start in
+    let p = behind a.held c.args.self.id in
     let n = c.args.absent - 1 in
     let l = c.loop-left in
     let w = l.invariant.3 in
@@ -37,7 +39,7 @@ returns-in_err-wal_object_exists g c =
 pub loop-left-preserved-then-branch : goal.loop-left-preserved-then-branch
 loop-left-preserved-then-branch g c =
     let a = g.S.Store.means c.args.store.now in
-    let p = behind a.held c.args.start in
+    let p = behind a.held c.args.self.id in
     let n = c.args.absent - 1 in
     let l = c.loop-left in
     let w = l.invariant.3 in
@@ -53,7 +55,7 @@ loop-left-preserved-then-branch g c =
 pub loop-left-preserved : goal.loop-left-preserved
 loop-left-preserved g c =
     let a = g.S.Store.means c.args.store.now in
-    let p = behind a.held c.args.start in
+    let p = behind a.held c.args.self.id in
     let n = c.args.absent - 1 in
     let l = c.loop-left in
     let w = l.invariant.3 in
@@ -69,7 +71,7 @@ loop-left-preserved g c =
 pub returns : goal.returns
 returns g c =
     let a = g.S.Store.means c.args.store.now in
-    let p = behind a.held c.args.start in
+    let p = behind a.held c.args.self.id in
     let n = c.args.absent - 1 in
     let l = c.loop-left in
     let w = l.invariant.3 in
