@@ -4,9 +4,8 @@ ghost use Rattle.rows.specs.Entries.{row_of};
 ghost use Rattle.mem_table.specs.Order.{no_row};
 
 use super::RowBuf;
-use crate::value::{kind_of, value_of};
 use arrayvec::ArrayVec;
-use rows::{Kind, RowEntry};
+use rows::{Kind, RowEntry, ValueDeletable};
 
 impl RowBuf {
     /// A value without digits or ticks, under the number 0 and the empty key.
@@ -32,7 +31,7 @@ impl RowBuf {
             create_ts: self.create_ts,
             expire_ts: self.expire_ts,
             key: self.key.as_slice(),
-            value: value_of(self.kind, self.value.as_slice()),
+            value: ValueDeletable::new(self.kind, self.value.as_slice()),
         }
     }
 
@@ -41,7 +40,7 @@ impl RowBuf {
         ensures { self.new ≡ row_of row.entry }
     {
         self.seq = row.seq;
-        self.kind = kind_of(row.value);
+        self.kind = row.value.kind();
         self.create_ts = row.create_ts;
         self.expire_ts = row.expire_ts;
         self.key.clear();
