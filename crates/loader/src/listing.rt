@@ -13,10 +13,11 @@ fn append_rows<T: Table>(table: &T, out: &mut Vec<u8>) -> Result<(), AllocError>
     ensures { Lists (T.Table.means table.now).order out.old.items out.new.items result }
 {
     let mut row = RowBuf::new();
-    let mut i = 0;
-    while table.nth(i, &mut row) {
+    let (count, _) = table.metadata();
+    for i in 0..count {
+        // There is a row at each place below the count.
+        let _ = table.nth(i, &mut row);
         write_row(row.lend(), out)?;
-        i += 1;
     }
     Ok(())
 }

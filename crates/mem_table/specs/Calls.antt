@@ -2,13 +2,11 @@
 use Rattle.std.specs.Prelude.{◌≡◌, ℕ, ◌<◌, ◌≤◌, Bool, true, false, cond, ◌||◌, List, [], ◌∷◌, length, Result, ◌==◌, nat_lt, slice_index_or}
 use Rattle.rows.specs.Rows.{Row}
 use Rattle.rows.specs.Sizes.{weight, size, total}
-use Rattle.mem_table.specs.declared.buffer.RowBuf.{RowBuf}
 use Rattle.mem_table.specs.declared.fault.TableFault.{TableFault}
 use Rattle.causes.specs.Said.{Said, refused, granted}
 use Rattle.mem_table.specs.Said.{said}
 use Rattle.mem_table.specs.Order.{no_row}
 use Rattle.mem_table.specs.Meaning.{Held, Meaning, Listed, added}
-use Rattle.mem_table.specs.Buffers.{held_by}
 
 -- there is no put left, or fewer bytes than key and value have
 abbrev pub lacks : Held → Row → Bool
@@ -51,8 +49,8 @@ pub record Empty (m : Meaning) (r : Bool) : Type 0 where
   pub listed : Listed m
 
 -- `nth`: the row at a place of the order; where there is none the buffer stays as it was
-pub record Nth (m : Meaning) (i : ℕ) (before after : RowBuf) (r : Bool) : Type 0 where
+pub record Nth (m : Meaning) (i : ℕ) (before after : Row) (r : Bool) : Type 0 where
   pub answer : r ≡ nat_lt i (length m.order)
-  pub row : i < length m.order → held_by after ≡ slice_index_or m.order i no_row
+  pub row : i < length m.order → after ≡ slice_index_or m.order i no_row
   pub none : length m.order ≤ i → after ≡ before
   pub listed : Listed m

@@ -4,4 +4,3 @@ pub mod Meaning
 pub mod Buffers
 pub mod Calls
 pub mod Laws
-pub mod Values

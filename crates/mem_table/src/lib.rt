@@ -6,10 +6,8 @@ mod calls;
 mod fault;
 mod laws;
 mod lent;
-mod value;
 
 pub use buffer::RowBuf;
 pub use calls::Table;
 pub use fault::TableFault;
 pub use laws::table_stands;
-pub use value::{kind_of, value_of};

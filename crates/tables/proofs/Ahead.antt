@@ -6,7 +6,8 @@ use Rattle.std.proofs.lemmas.Cmp.{ranked}
 use Rattle.std.proofs.lemmas.Bool.{ltb-true, lt-ltb, both_ways}
 use Rattle.mem_table.specs.Order.{below}
 use Rattle.mem_table.proofs.Keys.{less, level, below_self, below_trans, below_anti, compared}
-use Rattle.tables.specs.Ranks.{ahead}
+use Rattle.rows.specs.Rows.{Row}
+use Rattle.tables.specs.Ranks.{ahead, rank_of}
 
 -- by key, then the greater number first
 pub by_key : (k l : List ℕ) (m n : ℕ) → below k l ≡ true → ahead k m l n ≡ true
@@ -56,7 +57,7 @@ pub ahead_keys : (a b : List ℕ) (x y : ℕ) → ahead a x b y ≡ true → bel
 ahead_keys a b x y p = elim (since a b x y p) [ inl l ↦ below_anti a b l | inr l ↦ ap (below b) l.0 ∙ below_self b ]
 
 -- what a comparison of two keys says
-abbrev pub Says : List ℕ → List ℕ → Ordering → Type 0
+abbrev Says : List ℕ → List ℕ → Ordering → Type 0
 Says a b o = MatchOrdering o (below a b ≡ true) (a ≡ b) (below b a ≡ true)
 
 -- the first digits decide, and the rest where they are equal
@@ -73,11 +74,29 @@ says [] (y ∷ b) = refl
 says (x ∷ a) [] = refl
 says (x ∷ a) (y ∷ b) = behind x y a b (nat_cmp x y) (slice_cmp nat_cmp a b) (ranked x y (nat_cmp x y) refl) (says a b)
 
-pub from_cmp : (a b : List ℕ) (o : Ordering) → o ≡ slice_cmp nat_cmp a b → Says a b o
-from_cmp a b o e = subst (Says a b) (sym e) (says a b)
+-- a row comes before key k and number n, has them, or comes after
+abbrev pub Stands : Row → List ℕ → ℕ → Ordering → Type 0
+Stands r k n o = MatchOrdering o (ahead r.key r.seq k n ≡ true) ((r.key ≡ k) × (r.seq ≡ n)) (ahead k n r.key r.seq ≡ true)
 
 -- of equal keys the numbers decide
-pub numbered : (k l : List ℕ) (m n : ℕ) (o : Ordering) → k ≡ l → MatchOrdering o (n < m) (n ≡ m) (m < n) → MatchOrdering o (ahead k m l n ≡ true) ((k ≡ l) × (m ≡ n)) (ahead l n k m ≡ true)
+numbered : (k l : List ℕ) (m n : ℕ) (o : Ordering) → k ≡ l → MatchOrdering o (n < m) (n ≡ m) (m < n) → MatchOrdering o (ahead k m l n ≡ true) ((k ≡ l) × (m ≡ n)) (ahead l n k m ≡ true)
 numbered k l m n Less e h = by_number k l m n e h
 numbered k l m n Equal e h = (e, sym h)
 numbered k l m n Greater e h = by_number l k n m (sym e) h
+
+both : (k l : List ℕ) (m n : ℕ) (o p : Ordering) → Says k l o → MatchOrdering p (n < m) (n ≡ m) (m < n) → MatchOrdering (ordering_then o p) (ahead k m l n ≡ true) ((k ≡ l) × (m ≡ n)) (ahead l n k m ≡ true)
+both k l m n Less p h g = by_key k l m n h
+both k l m n Equal p h g = numbered k l m n p h g
+both k l m n Greater p h g = by_key l k n m h
+
+pub from_rank : (r : Row) (k : List ℕ) (n : ℕ) (o : Ordering) → o ≡ rank_of r.key r.seq k n → Stands r k n o
+from_rank r k n o e = subst (Stands r k n) (sym e) (both r.key k r.seq n _ _ (says r.key k) (ranked n r.seq (nat_cmp n r.seq) refl))
+
+pub stands_at_less : (r : Row) (k : List ℕ) (n : ℕ) (o : Ordering) → Stands r k n o → o ≡ Less → ahead r.key r.seq k n ≡ true
+stands_at_less r k n o h e = subst (Stands r k n) e h
+
+pub stands_at_equal : (r : Row) (k : List ℕ) (n : ℕ) (o : Ordering) → Stands r k n o → o ≡ Equal → (r.key ≡ k) × (r.seq ≡ n)
+stands_at_equal r k n o h e = subst (Stands r k n) e h
+
+pub stands_at_greater : (r : Row) (k : List ℕ) (n : ℕ) (o : Ordering) → Stands r k n o → o ≡ Greater → ahead k n r.key r.seq ≡ true
+stands_at_greater r k n o h e = subst (Stands r k n) e h

@@ -15,7 +15,6 @@ use Rattle.tables.specs.Slots.{no_slot, row_at, standing, Lies, Kept}
 use Rattle.tables.specs.Shelves.{holds, order_of, rows_of}
 use Rattle.tables.proofs.Placing.{After, after_insert, after_supersede, after_overwrite}
 use Rattle.mem_table.proofs.Room.{has_room}
-use Rattle.tables.proofs.Shelves.{kept}
 use Rattle.tables.proofs.Texts.{digits_twice, row_kept}
 use Rattle.tables.proofs.Members.{slots_same}
 use Rattle.std.proofs.lemmas.List.{map-append}
@@ -38,7 +37,7 @@ pub comes_last : (s : Shelf) (e : RowEntry) (text : List ℕ) → text ≡ vec_i
 comes_last s e text grown slot is slots pushed =
     let same : map (row_at text) (vec_items s.slots) ≡ rows_of s =
     slots_same (row_at text) (row_at (vec_items s.text)) (vec_items s.slots)
-    (λ i l. ap (λ t. row_at t (get_or (vec_items s.slots) i no_slot)) grown ∙ row_kept (vec_items s.text) ((row_of e).key ++ (row_of e).value) (get_or (vec_items s.slots) i no_slot) (s.placed i l)) in
+    (λ i l. ap (λ t. row_at t (get_or (vec_items s.slots) i no_slot)) grown ∙ row_kept (vec_items s.text) ((row_of e).key ++ (row_of e).value) (get_or (vec_items s.slots) i no_slot) (s.kept.sound i l).placed) in
     ap (map (row_at text)) pushed ∙ map-append (row_at text) (vec_items s.slots) (slot ∷ []) ∙ ap (λ xs. xs ++ row_at text slot ∷ []) same ∙ ap (λ r. rows_of s ++ r ∷ []) is
 
 module _ (s : Shelf) (e : RowEntry) (room : lacks (holds s) (row_of e) ≡ false)
@@ -52,7 +51,7 @@ module _ (s : Shelf) (e : RowEntry) (room : lacks (holds s) (row_of e) ≡ false
   enough = (has_room (holds s) (row_of e) room).1
 
   abbrev Then : List Slot → List ℕ → ℕ → Type 0
-  Then = After (vec_items s.text) (vec_items s.slots) (vec_items s.ranks) s.puts s.bytes s.size (kept s) e some enough text grown slot lies is
+  Then = After (vec_items s.text) (vec_items s.slots) (vec_items s.ranks) s.puts s.bytes s.size s.kept e some enough text grown slot lies is
 
   landed : (ss : List Slot) (ks : List ℕ) (m : ℕ) → slots ≡ ss → ranks ≡ ks → sum ≡ m → Then ss ks m → Landed s (row_of e) text slots ranks puts bytes sum
   landed ss ks m p q r a =
@@ -67,13 +66,13 @@ module _ (s : Shelf) (e : RowEntry) (room : lacks (holds s) (row_of e) ≡ false
       → slots ≡ vec_items s.slots ++ slot ∷ [] → ranks ≡ insert (vec_items s.ranks) i (length (vec_items s.slots)) → sum ≡ s.size + size (row_of e)
       → Landed s (row_of e) text slots ranks puts bytes sum
   inserts i gap p q r =
-      landed _ _ _ p q r (after_insert (vec_items s.text) (vec_items s.slots) (vec_items s.ranks) s.puts s.bytes s.size (kept s) e some enough text grown slot lies is i gap)
+      landed _ _ _ p q r (after_insert (vec_items s.text) (vec_items s.slots) (vec_items s.ranks) s.puts s.bytes s.size s.kept e some enough text grown slot lies is i gap)
 
   module _ (i : ℕ) (at : At (order_of s) (row_of e).key (row_of e).seq i) (less : sum + size (get_or (order_of s) i no_row) ≡ s.size + size (row_of e)) where
     pub supersedes : slots ≡ vec_items s.slots ++ slot ∷ [] → ranks ≡ set (vec_items s.ranks) i (length (vec_items s.slots)) → Landed s (row_of e) text slots ranks puts bytes sum
     supersedes p q =
-        landed _ _ _ p q refl (after_supersede (vec_items s.text) (vec_items s.slots) (vec_items s.ranks) s.puts s.bytes s.size (kept s) e some enough text grown slot lies is i at sum less)
+        landed _ _ _ p q refl (after_supersede (vec_items s.text) (vec_items s.slots) (vec_items s.ranks) s.puts s.bytes s.size s.kept e some enough text grown slot lies is i at sum less)
 
     pub overwrites : slots ≡ set (vec_items s.slots) (get_or (vec_items s.ranks) i 0) slot → ranks ≡ vec_items s.ranks → Landed s (row_of e) text slots ranks puts bytes sum
     overwrites p q =
-        landed _ _ _ p q refl (after_overwrite (vec_items s.text) (vec_items s.slots) (vec_items s.ranks) s.puts s.bytes s.size (kept s) e some enough text grown slot lies is i at sum less)
+        landed _ _ _ p q refl (after_overwrite (vec_items s.text) (vec_items s.slots) (vec_items s.ranks) s.puts s.bytes s.size s.kept e some enough text grown slot lies is i at sum less)

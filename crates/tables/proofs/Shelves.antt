@@ -17,19 +17,6 @@ use Rattle.tables.specs.Shelves.{holds, order_of, shelf_means}
 use Rattle.tables.proofs.Ordered.{rising, once}
 use Rattle.tables.proofs.Standing.{standing_length}
 
-pub kept : (s : Shelf) → Kept (vec_items s.text) (vec_items s.slots) (vec_items s.ranks) s.puts s.bytes s.size
-kept s = record {
-  counted = s.counted;
-  limited = s.limited;
-  fewer = s.fewer;
-  inside = s.inside;
-  digits = s.digits;
-  sound = λ i l. record { placed = s.placed i l; marked = s.marked i l; keyed = s.keyed i l; valued = s.valued i l };
-  ordered = s.ordered;
-  weighed = s.weighed;
-  sized = s.sized;
-}
-
 pub long : (s : Shelf) → length (order_of s) ≡ length (vec_items s.ranks)
 long s = standing_length (vec_items s.text) (vec_items s.slots) (vec_items s.ranks)
 
@@ -48,19 +35,19 @@ kept_listed {text = text} {slots = slots} {ranks = ranks} k = record {
 }
 
 pub listed : (s : Shelf) → Listed (shelf_means s)
-listed s = kept_listed (kept s)
+listed s = kept_listed s.kept
 
 -- the slot of a row that stands
 pub sound_at : (s : Shelf) (i : ℕ) → i < length (vec_items s.ranks) → Lies (length (vec_items s.text)) (get_or (vec_items s.slots) (get_or (vec_items s.ranks) i 0) no_slot)
-sound_at s i l = (kept s).sound (get_or (vec_items s.ranks) i 0) (s.inside i l)
+sound_at s i l = s.kept.sound (get_or (vec_items s.ranks) i 0) (s.kept.inside i l)
 
 -- the sizes of all rows and one more
 pub size_bound : (s : Shelf) (e : RowEntry) → lacks (holds s) (row_of e) ≡ false → s.size + size (row_of e) ≤ 40000000
-size_bound s e room = omega (arith, s.sized, sizes_most (order_of s), long s, s.fewer, s.counted, s.weighed, s.limited, size_most (row_of e), (has_room (holds s) (row_of e) room).1)
+size_bound s e room = omega (arith, s.kept.sized, sizes_most (order_of s), long s, s.kept.fewer, s.kept.counted, s.kept.weighed, s.kept.limited, size_most (row_of e), (has_room (holds s) (row_of e) room).1)
 
 -- one row's size is within that of all
 pub size_within : (s : Shelf) (r : Row) (i : ℕ) → i < length (order_of s) → size (get_or (order_of s) i no_row) ≤ s.size + size r
-size_within s r i l = omega (arith, total_set size (order_of s) i r l, s.sized)
+size_within s r i l = omega (arith, total_set size (order_of s) i r l, s.kept.sized)
 
 -- the number read at a place of the order
 pub rank_is : (s : Shelf) (i n : ℕ) → n ≡ get_or (vec_items s.ranks) i n → i < length (order_of s) → n ≡ get_or (vec_items s.ranks) i 0

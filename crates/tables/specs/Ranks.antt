@@ -1,9 +1,14 @@
 -- The order in which the tables keep their rows: by key, and of one key the greater number first.
 use Rattle.std.specs.Prelude.{◌≡◌, ℕ, ◌<◌, ◌≤◌, Bool, true, false, cond, List, length, get_or, nat_lt, slice_index_or}
 use Rattle.std.specs.declared.cmp.Ordering.{Ordering}
-use Rattle.std.specs.Ordering.{MatchOrdering}
+use Rattle.std.specs.Ordering.{nat_cmp, ordering_then}
+use Rattle.std.specs.Cmp.Lexicographic.{slice_cmp}
 use Rattle.rows.specs.Rows.{Row}
 use Rattle.mem_table.specs.Order.{no_row, below}
+
+-- which comes first, key k with number m or key l with number n
+abbrev pub rank_of : List ℕ → ℕ → List ℕ → ℕ → Ordering
+rank_of k m l n = ordering_then (slice_cmp nat_cmp k l) (nat_cmp n m)
 
 -- key k with number m comes before key l with number n: by key, then the greater number first
 abbrev pub ahead : List ℕ → ℕ → List ℕ → ℕ → Bool
@@ -35,7 +40,3 @@ pub record Between (rs : List Row) (k : List ℕ) (n i : ℕ) : Type 0 where
   pub bound : i ≤ length rs
   pub front : Front rs k n i
   pub back : Back rs k n i
-
--- a row comes before key k and number n, has them, or comes after
-abbrev pub Stands : Row → List ℕ → ℕ → Ordering → Type 0
-Stands r k n o = MatchOrdering o (ahead r.key r.seq k n ≡ true) ((r.key ≡ k) × (r.seq ≡ n)) (ahead k n r.key r.seq ≡ true)

@@ -1,10 +1,12 @@
 -- Rows that slots cut out of a text of digits.
-use Rattle.std.specs.Prelude.{◌≡◌, ℕ, ◌+◌, ◌*◌, ◌%◌, ◌^◌, ◌<◌, ◌≤◌, true, List, map, length, take, drop, None, slice_index, slice_index_or}
+use Rattle.std.specs.Prelude.{◌≡◌, ℕ, ◌+◌, ◌*◌, ◌%◌, ◌^◌, ◌<◌, ◌≤◌, true, List, map, length, take, drop, Some, None, Option, slice_index, slice_index_or}
 use Rattle.rows.specs.declared.types.Kind.TheVariants.{Value}
 use Rattle.rows.specs.Rows.{Row, hex_digit, fits, room}
 use Rattle.rows.specs.Sizes.{weight, size, total}
 use Rattle.tables.specs.declared.slot.Slot.{Slot}
-use Rattle.tables.specs.Ranks.{Ascending}
+use Rattle.std.specs.declared.cmp.Ordering.{Ordering}
+use Rattle.std.specs.declared.cmp.Ordering.TheVariants.{Less}
+use Rattle.tables.specs.Ranks.{Ascending, rank_of}
 
 abbrev pub no_slot : Slot
 no_slot = record { seq = 0; kind = Value; create_ts = None; expire_ts = None; start = 0; key_len = 0; value_len = 0 }
@@ -22,6 +24,11 @@ row_at text s = record {
 -- the rows of the slots whose numbers these are
 abbrev pub standing : List ℕ → List Slot → List ℕ → List Row
 standing text slots ranks = map (λ k. row_at text (slice_index_or slots k no_slot)) ranks
+
+-- how the row of a slot stands to key k and number n; where there is no slot, before them
+abbrev pub stands : List ℕ → Option Slot → List ℕ → ℕ → Ordering
+stands text (Some s) k n = rank_of (row_at text s).key (row_at text s).seq k n
+stands text None k n = Less
 
 -- the digits of a slot lie within n
 abbrev pub Placed : ℕ → Slot → Type 0

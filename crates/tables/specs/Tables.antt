@@ -1,23 +1,18 @@
--- What the two tables mean.
-use Rattle.std.specs.Prelude.{◌≡◌, List, [], ◌∷◌, ◌++◌, Ok, Err, Result}
+-- What a table means.
+use Rattle.std.specs.Prelude.{ℕ, List, Result}
 use Rattle.rows.specs.Rows.{Row}
 use Rattle.mem_table.specs.declared.fault.TableFault.{TableFault}
-use Rattle.tables.specs.declared.arrival.ArrivalLog.{ArrivalLog}
-use Rattle.tables.specs.declared.sorted.SortedTable.{SortedTable}
+use Rattle.tables.specs.declared.table.RowTable.{RowTable}
 use Rattle.mem_table.specs.Meaning.{Meaning}
-use Rattle.tables.specs.Shelves.{rows_of, shelf_means}
+use Rattle.tables.specs.Shelves.{Logged, rows_of, shelf_means}
 
-abbrev pub sorted_means : SortedTable → Meaning
-sorted_means t = shelf_means t.shelf
+abbrev pub table_means : {log : ℕ} → RowTable log → Meaning
+table_means t = shelf_means t.shelf
 
-abbrev pub arrival_means : ArrivalLog → Meaning
-arrival_means t = shelf_means t.shelf
-
--- every row that came, in the order of arrival
-abbrev pub arrivals : ArrivalLog → List Row
+-- the rows of all slots; in a log, every row that came, in the order of arrival
+abbrev pub arrivals : {log : ℕ} → RowTable log → List Row
 arrivals t = rows_of t.shelf
 
 -- `put` on a log: a row that is taken comes last, and a refused one is not kept
-abbrev pub Logged : ArrivalLog → ArrivalLog → Row → Result (Unit {0}) TableFault → Type 0
-Logged before after row (Ok u) = arrivals after ≡ arrivals before ++ row ∷ []
-Logged before after row (Err f) = arrivals after ≡ arrivals before
+abbrev pub Logs : {log : ℕ} → RowTable log → RowTable log → Row → Result (Unit {0}) TableFault → Type 0
+Logs before after = Logged before.shelf after.shelf

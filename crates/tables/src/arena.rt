@@ -5,15 +5,7 @@ ghost use Rattle.rows.specs.Sizes.{weight as weight_of};
 ghost use Rattle.tables.specs.Slots.{Digits, Lies, row_at};
 
 use super::slot::Slot;
-use mem_table::{kind_of, value_of};
-use rows::RowEntry;
-
-/// The bytes of a row's key and value.
-pub(crate) fn weight(row: RowEntry<'_>) -> usize
-    ensures { result ≡ weight_of (row_of row.entry) }
-{
-    row.key.len() / 2 + row.value.digits().len() / 2
-}
+use rows::{RowEntry, ValueDeletable};
 
 /// Adds the digits of a row to a text, and says where they lie.
 pub(crate) fn store(text: &mut Vec<u8>, row: RowEntry<'_>) -> Slot
@@ -29,7 +21,7 @@ pub(crate) fn store(text: &mut Vec<u8>, row: RowEntry<'_>) -> Slot
     let _ = text.extend_from_slice(digits);
     Slot {
         seq: row.seq,
-        kind: kind_of(row.value),
+        kind: row.value.kind(),
         create_ts: row.create_ts,
         expire_ts: row.expire_ts,
         start,
@@ -52,6 +44,6 @@ pub(crate) fn read(text: &[u8], slot: Slot) -> RowEntry<'_>
         create_ts: slot.create_ts,
         expire_ts: slot.expire_ts,
         key: &text[start..middle],
-        value: value_of(slot.kind, &text[middle..end]),
+        value: ValueDeletable::new(slot.kind, &text[middle..end]),
     }
 }

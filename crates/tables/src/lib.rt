@@ -2,11 +2,9 @@
 #![tactic(auto)]
 
 mod arena;
-mod arrival;
-mod rank;
 mod shelf;
 mod slot;
-mod sorted;
+mod table;
 
-pub use arrival::ArrivalLog;
-pub use sorted::SortedTable;
+pub use shelf::{MOST_BYTES, MOST_PUTS};
+pub use table::{ArrivalLog, RowTable, SortedTable};

@@ -12,12 +12,3 @@ pub(crate) struct Slot {
     pub key_len: usize,
     pub value_len: usize,
 }
-
-/// Where the row of a key and number stands in an order.
-#[derive(Clone, Copy)]
-pub(crate) enum Spot {
-    /// It stands here.
-    There(usize),
-    /// There is none; it would stand here.
-    Gap(usize),
-}

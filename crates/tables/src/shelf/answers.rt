@@ -9,10 +9,10 @@ use mem_table::RowBuf;
 use std::alloc::{AllocError, Global};
 
 /// The most rows that a table holds.
-const MOST_PUTS: usize = 65_536;
+pub const MOST_PUTS: usize = 65_536;
 
 /// The most bytes that the rows of a table have.
-const MOST_BYTES: usize = 16_777_216;
+pub const MOST_BYTES: usize = 16_777_216;
 
 impl Shelf {
     /// A shelf without rows, with room for that many puts and bytes, cut to the limits of a table.

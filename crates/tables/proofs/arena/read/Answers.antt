@@ -14,6 +14,6 @@ invariant_of-result c =
     let cut = take (at + s.value_len - at) (drop at text) in
     let key = cut_hex text s.start (at - s.start) 128 c.requires.digits (omega (arith, l.placed)) (omega (arith, l.keyed.0)) (omega (arith, l.keyed.1)) in
     let value : Hex most cut = cut_hex text at (at + s.value_len - at) most c.requires.digits (omega (arith, l.placed)) (omega (arith, l.valued.0)) (omega (arith, l.valued.1)) in
-    let of-kind : Hex (room (kind_of c.value_of.result)) cut = subst (λ (k : Kind). Hex (room k) cut) (sym c.value_of.ensures.kind) value in
-    let held : Hex (room (kind_of c.value_of.result)) (digits_of c.value_of.result) = subst (Hex (room (kind_of c.value_of.result))) (sym (c.value_of.ensures.whole value.1)) of-kind in
+    let of-kind : Hex (room (kind_of c.new.result)) cut = subst (λ (k : Kind). Hex (room k) cut) (sym c.new.ensures.kind) value in
+    let held : Hex (room (kind_of c.new.result)) (digits_of c.new.result) = subst (Hex (room (kind_of c.new.result))) (sym (c.new.ensures.whole value.1)) of-kind in
     record { number = l.marked.0; created = l.marked.1; expires = l.marked.2; key_digits = key; value_digits = held }
