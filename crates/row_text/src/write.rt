@@ -73,17 +73,6 @@ fn put_tick(out: &mut Vec<u8>, ts: Option<i64>)
     }
 }
 
-/// The letter of a value's kind.
-fn letter_of(value: ValueDeletable<'_>) -> u8
-    ensures { result ≡ letter (kind_of value.entry) }
-{
-    match value {
-        ValueDeletable::Value(_) => b'V',
-        ValueDeletable::Merge(_) => b'M',
-        ValueDeletable::Tombstone => b'T',
-    }
-}
-
 /// Appends number and kind.
 fn put_head(out: &mut Vec<u8>, seq: u64, value: ValueDeletable<'_>)
     requires { vec_len out.old + 23 ≤ vec_capacity out.old }
@@ -91,8 +80,7 @@ fn put_head(out: &mut Vec<u8>, seq: u64, value: ValueDeletable<'_>)
     ensures short { vec_len out.new ≤ vec_len out.old + 23 }
 {
     put_decimal(out, seq);
-    let letter = letter_of(value);
-    put(out, &[b'\t', letter, b'\t']);
+    put(out, &[b'\t', value.kind().into(), b'\t']);
 }
 
 /// Appends both ticks.

@@ -1,6 +1,7 @@
 -- The six fields of a line, each with the byte that ends it.
-use Rattle.std.specs.Prelude.{◌≡◌, ℕ, ◌+◌, ◌-◌, ◌*◌, ◌^◌, ◌<◌, ◌≤◌, Bool, true, ◌⊎◌, List, [], ◌∷◌, ◌++◌, length, take, ℤ, Some, None, Ok, Err, decimal, Option, Result, ◌≢◌}
+use Rattle.std.specs.Prelude.{◌≡◌, ℕ, ◌+◌, ◌-◌, ◌*◌, ◌^◌, ◌<◌, ◌≤◌, Bool, true, ◌⊎◌, List, [], ◌∷◌, ◌++◌, length, take, ℤ, Ok, Err, decimal, Option, Result, ◌≢◌}
 use Rattle.rows.specs.declared.types.Kind.{Kind}
+use Rattle.rows.specs.declared.types.UnknownKind.{UnknownKind}
 use Rattle.rows.specs.Rows.{Row, Hex, fits, room}
 use Rattle.rows.specs.Lines.{letter, tick}
 use Rattle.rows.specs.Grammar.{Lang, Damaged, Then}
@@ -81,7 +82,7 @@ abbrev pub ReadsHex : ℕ → ℕ → List ℕ → Result ℕ ℕ → Type 0
 ReadsHex most end t (Ok n) = HexRead most end t n
 ReadsHex most end t (Err n) = Damaged (Lang (HexField most end)) t n
 
--- the kind that a letter stands for
-abbrev pub ReadsKind : ℕ → Option Kind → Type 0
-ReadsKind b (Some k) = b ≡ letter k
-ReadsKind b None = (k : Kind) → b ≢ letter k
+-- the kind that a letter stands for, or a letter that stands for none
+abbrev pub ReadsKind : ℕ → Result Kind UnknownKind → Type 0
+ReadsKind b (Ok k) = b ≡ letter k
+ReadsKind b (Err e) = (e.0 ≡ b) × ((k : Kind) → b ≢ letter k)

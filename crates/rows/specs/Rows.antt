@@ -26,6 +26,12 @@ digits_of (Value x) = x.now
 digits_of (Merge x) = x.now
 digits_of Tombstone = []
 
+-- the digits that a value of a kind has: a tombstone has none
+abbrev pub digits_for : Kind → List ℕ → List ℕ
+digits_for KValue digits = digits
+digits_for KMerge digits = digits
+digits_for KTombstone digits = []
+
 abbrev pub row : ℕ → Option ℤ → Option ℤ → List ℕ → ValueDeletable → Row
 row n c x k v = record { seq = n; kind = kind_of v; created = c; expires = x; key = k; value = digits_of v }
 

@@ -2,19 +2,35 @@
 ghost use Rattle.std.specs.Prelude.{◌≡◌, ◌+◌, ◌%◌, ◌≤◌, length};
 ghost use Rattle.rows.specs.Fields.{KindField, ReadsKind};
 ghost use Rattle.rows.specs.Grammar.{ReadAs, same};
-ghost use Rattle.rows.specs.Rows.{digits_of, kind_of, room};
+ghost use Rattle.rows.specs.Lines.{letter};
+ghost use Rattle.rows.specs.Rows.{room};
 
-use crate::types::{Kind, ValueDeletable};
+use crate::types::{Kind, UnknownKind};
 
-/// The kind that a letter stands for.
-fn kind_of(letter: char) -> Option<Kind>
-    ensures { ReadsKind letter result }
-{
-    match letter {
-        'V' => Some(Kind::Value),
-        'M' => Some(Kind::Merge),
-        'T' => Some(Kind::Tombstone),
-        _ => None,
+impl TryFrom<u8> for Kind {
+    type Error = UnknownKind;
+
+    ghost try_from_gives = { ReadsKind };
+
+    fn try_from(letter: u8) -> Result<Kind, UnknownKind> {
+        match letter {
+            b'V' => Ok(Kind::Value),
+            b'M' => Ok(Kind::Merge),
+            b'T' => Ok(Kind::Tombstone),
+            _ => Err(UnknownKind(letter)),
+        }
+    }
+}
+
+impl From<Kind> for u8 {
+    ghost from_gives = { λ kind byte. byte ≡ letter kind };
+
+    fn from(kind: Kind) -> u8 {
+        match kind {
+            Kind::Value => b'V',
+            Kind::Merge => b'M',
+            Kind::Tombstone => b'T',
+        }
     }
 }
 
@@ -26,7 +42,7 @@ pub(crate) fn kind_at(text: &[u8], at: usize) -> Result<(Kind, usize), usize>
     if at == text.len() {
         return Err(at);
     }
-    let Some(kind) = kind_of(char::from(text[at])) else {
+    let Ok(kind) = Kind::try_from(text[at]) else {
         return Err(at);
     };
     if at + 1 == text.len() || text[at + 1] != b'\t' {
@@ -43,18 +59,5 @@ pub(crate) fn most_digits(kind: Kind) -> usize
     match kind {
         Kind::Value | Kind::Merge => 2048,
         Kind::Tombstone => 0,
-    }
-}
-
-/// The value of a row of this kind whose value field has these digits.
-pub(crate) fn value_of<'a>(kind: Kind, digits: &'a [u8]) -> ValueDeletable<'a>
-    requires { length digits.now ≤ room kind }
-    ensures kind { kind_of result ≡ kind }
-    ensures digits { digits_of result ≡ digits.now }
-{
-    match kind {
-        Kind::Value => ValueDeletable::Value(digits),
-        Kind::Merge => ValueDeletable::Merge(digits),
-        Kind::Tombstone => ValueDeletable::Tombstone,
     }
 }

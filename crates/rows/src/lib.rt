@@ -19,4 +19,4 @@ pub use entry::RowEntry;
 pub use reader::Reader;
 pub use sizes::{estimate_encoded_size_compacted, estimate_encoded_size_wal};
 pub use totals::Totals;
-pub use types::{Damage, Kind, ValueDeletable};
+pub use types::{Damage, Kind, UnknownKind, ValueDeletable};

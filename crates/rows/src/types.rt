@@ -12,15 +12,19 @@ pub enum ValueDeletable<'a> {
 }
 
 /// The kind of a row, one letter of its line.
-#[derive(Clone, Copy)]
+#[derive(Clone, Copy, Debug, PartialEq, Eq)]
 pub enum Kind {
     Value,
     Merge,
     Tombstone,
 }
 
+/// A letter that stands for no kind.
+#[derive(Clone, Copy, Debug, PartialEq, Eq)]
+pub struct UnknownKind(pub u8);
+
 /// Where a text stops being one that rows write.
-#[derive(Clone, Copy)]
+#[derive(Clone, Copy, Debug, PartialEq, Eq)]
 pub struct Damage {
     /// One more than the line ends before the place.
     pub line: usize,

@@ -7,9 +7,8 @@ ghost use Rattle.rows.specs.Reading.{Advances, ReadsBack, no_row, row_under, tex
 use super::Reader;
 use crate::entry::RowEntry;
 use crate::found::{Found, Span};
-use crate::kind::value_of;
 use crate::line::line_at;
-use crate::types::{Damage, Kind};
+use crate::types::{Damage, Kind, ValueDeletable};
 
 /// How many lines end in a text.
 fn line_ends(text: &[u8]) -> usize
@@ -88,7 +87,7 @@ impl<'a> Reader<'a> {
         let (start, end) = (self.found.key.start, self.found.key.end);
         let key = &text[start..end];
         let (start, end) = (self.found.value.start, self.found.value.end);
-        let value = value_of(self.found.kind, &text[start..end]);
+        let value = ValueDeletable::new(self.found.kind, &text[start..end]);
         RowEntry {
             seq: self.found.seq,
             create_ts: self.found.create_ts,
