@@ -24,10 +24,9 @@ fn open<S: Store>(store: &mut S, id: u64, window: usize) -> Result<Opening, WalF
 
 /// The id and the answer of the front, and 0 where there is none.
 fn taken<S: Store>(opening: &mut Opening, store: &mut S) -> (u64, Result<usize, StoreFault>) {
-    match opening.take_front(store) {
-        Some(front) => (front.wal_id, front.answer),
-        None => (0, Ok(0)),
-    }
+    opening
+        .take_front(store)
+        .map_or((0, Ok(0)), |front| (front.wal_id, front.answer))
 }
 
 #[test]

@@ -1,15 +1,17 @@
 -- A fence that is put after the id to begin at was asked for.
-use Rattle.std.proofs.Common.{◌≡◌, ℕ, true, false, cond, eqb, ◌⊎◌, [], ◌∷◌, Err, sym, ap, ◌∙◌, subst, inl, inr, ⊎_elim, arith}
-use Rattle.std.proofs.lemmas.Bool.{cases_Bool, both_ways}
+use Rattle.std.proofs.Common.{◌≡◌, ℕ, ◌≤◌, true, false, cond, eqb, ◌⊎◌, [], ◌∷◌, Err, sym, ap, ◌∙◌, subst, inl, inr, ⊎_elim, arith}
+use Rattle.std.proofs.lemmas.Bool.{cases_Bool, both_ways, cond-false, le-ltb}
 use Rattle.causes.specs.Said.{Said, granted}
 use Rattle.store.specs.Meaning.{Held, Meaning}
 use Rattle.store.specs.Calls.{OwnFault, put_leaves}
 use Rattle.wal.specs.declared.fault.WalFault.{WalFault}
 use Rattle.wal.specs.Said.{fault}
+use Rattle.wal.specs.Tails.{tail_says, Tail}
 use Rattle.wal_init.specs.declared.record.ManifestRecord.{ManifestRecord}
 use Rattle.wal_init.specs.declared.record.Options.{Options}
 use Rattle.wal_init.specs.Fences.{Tried, Stops, fence_says, Fenced}
-use Rattle.wal_init.specs.WriterInit.{first_says, begin_says, Begins, Begun, Opened}
+use Rattle.wal_init.specs.WriterInit.{first_says, past_tail, begin_says, Begins, Begun, Opened}
+use Rattle.wal_init.proofs.Outcomes.{never_zero}
 
 abbrev pub number_of : Said → ℕ
 number_of s = s.number
@@ -48,3 +50,9 @@ module _ (a b c : Meaning) (m : ManifestRecord) (id : ℕ) (o : Options) (start 
 -- arguments against which nothing stands
 pub no_cause : (m : ManifestRecord) (id : ℕ) (o : Options) → first_says m id o ≡ granted [] → eqb (first_says m id o).number 0 ≡ false → ⊥
 no_cause m id o e f = let q : eqb (number_of (first_says m id o)) 0 ≡ true = ap (λ s. eqb (number_of s) 0) e in both_ways (eqb (first_says m id o).number 0) f q
+
+-- what stands against a tail stands against the id to begin at
+pub tail_refused : (before after : Meaning) (m : ManifestRecord) (id : ℕ) (f : WalFault) → id ≤ m.replay_after_wal_id → Tail before after m.replay_after_wal_id (Err f) → Begins before after m id (fault f)
+tail_refused before after m id f l t =
+    let says : fault f ≡ tail_says before.held m.replay_after_wal_id → fault f ≡ begin_says before.held m id = λ q. sym (cond-false _ _ _ (le-ltb m.replay_after_wal_id id l) ∙ ap past_tail (sym q) ∙ cond-false _ _ _ (never_zero f)) in
+    record { steady = t.steady; held = t.held; answer = ⊎_elim (λ q. inl (says q)) (λ u. inr (record { covered = l; cut = u })) t.answer }

@@ -28,7 +28,7 @@ module _ (before x y : store.Meaning) (st : before.steady ≡ true) where
   one_front w u v None (Some g) p q = absurd (omega arith)
   one_front w u v (Some f) None p q = absurd (omega arith)
   one_front w u v (Some f) (Some g) p q =
-      let a = one_answer (slot_at w 0).state w.next f.answer g.answer p.2 q.2 in
+      let a = one_answer (slot_at w 0) w.next f.answer g.answer p.2 q.2 in
       let i : f.wal_id ≡ g.wal_id = p.1 ∙ sym q.1 in
       let front : ℕ → Result ℕ StoreFault → Front = λ n c. record { wal_id = n; answer = c } in
       (ap (λ n. Some (front n f.answer)) i ∙ ap (λ c. Some (front g.wal_id c)) a.0, a.1, p.3 ∙ sym q.3)

@@ -5,6 +5,9 @@ use Rattle.store.specs.declared.fault.StoreFault.{StoreFault}
 use Rattle.store.specs.declared.fault.StoreFault.TheVariants.{Exists, Missing, NoRoom, TooLong, Short, Unavailable}
 use Rattle.store.specs.Meaning.{Held, Meaning}
 use Rattle.store.specs.Calls.{Put, OwnFault, put_says, put_leaves}
+use Rattle.wal.specs.declared.fault.WalFault.{WalFault}
+use Rattle.wal.specs.Said.{fault}
+use Rattle.wal_init.specs.declared.wal_id.WalId.{WalId}
 
 -- the last id that is tried: 4,096 ids in all, and none above 2^62
 abbrev pub reach : ℕ → ℕ
@@ -41,6 +44,11 @@ pub record Fenced (before after : Meaning) (start : ℕ) (s : Said) : Type 0 whe
   pub tried : Tried before.held start id
   pub answer : (Stops before.held start id × (s ≡ fence_says before.held start id) × (after.held ≡ put_leaves before.held id []))
       ⊎ (OwnFault before id s × ((after.held ≡ before.held) ⊎ (after.held ≡ put_leaves before.held id [])))
+
+-- what an answer of a fence's id and the puts that it took says
+abbrev pub said_fence : Result (WalId × ℕ) WalFault → Said
+said_fence (Ok p) = granted (p.0.number ∷ p.1 ∷ [])
+said_fence (Err f) = fault f
 
 -- one put of a fence: whether the id was free
 abbrev pub wrote : Result (Unit {0}) StoreFault → Result Bool StoreFault

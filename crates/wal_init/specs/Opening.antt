@@ -1,12 +1,11 @@
--- What an opening means, and what each of its calls does.
+-- What an opening is in contracts, and what each of its calls does.
 use Rattle.std.specs.Prelude.{◌≡◌, ℕ, ◌+◌, Bool, Option}
 use Rattle.store.specs.Meaning as store
 use Rattle.wal_init.specs.declared.record.ManifestRecord.{ManifestRecord}
 use Rattle.wal_init.specs.declared.record.Options.{Options}
 use Rattle.wal_init.specs.declared.grant.Grant.{Grant}
-use Rattle.wal_init.specs.declared.opening.Opening.{Opening}
 use Rattle.wal_init.specs.declared.window.Front.{Front}
-use Rattle.wal_init.specs.Windows.{Windowed, window_means, begun, over, unasked, Arrives, Takes}
+use Rattle.wal_init.specs.Windows.{Windowed, begun, over, unasked, Arrives, Takes}
 
 pub record Meaning : Type 0 where
   -- what it was opened with
@@ -15,9 +14,6 @@ pub record Meaning : Type 0 where
   pub block : ℕ
   -- the files that are read next, of which the fence is the last
   pub window : Windowed
-
-abbrev pub means : Opening → Meaning
-means s = record { manifest = s.manifest; options = s.options; block = s.block.bytes; window = window_means s.window }
 
 -- the opening of a grant: the ids from behind the record's up to the fence, of which no file was asked for
 abbrev pub opened : Grant → Meaning

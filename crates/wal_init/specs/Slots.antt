@@ -5,7 +5,6 @@ use Rattle.store.specs.Meaning.{Meaning}
 use Rattle.store.specs.Calls.{Head}
 use Rattle.wal_init.specs.declared.slot.SlotState.{SlotState}
 use Rattle.wal_init.specs.declared.slot.SlotState.TheVariants.{Waiting, Arrived, Refused}
-use Rattle.wal_init.specs.declared.slot.Slot.{Slot}
 use Rattle.wal_init.specs.declared.slot.Event.{Event}
 use Rattle.wal_init.specs.declared.slot.Event.TheVariants.{Arrival, Taking}
 
@@ -30,11 +29,6 @@ abbrev pub leaves : Event → Result ℕ StoreFault → SlotState
 leaves Arrival a = keeps a
 leaves Taking a = Waiting
 
-pub record Meets (s s' : Meaning) (slot slot' : SlotState) (id : ℕ) (event : Event) (r : Bool × Result ℕ StoreFault) : Type 0 where
-  pub asked : r.0 ≡ is_waiting slot
-  pub answer : Says s s' slot id r.1
-  pub left : slot' ≡ leaves event r.1
-
--- a slot that nothing came to yet
-abbrev pub free : Slot
-free = record { state = Waiting }
+pub record Meets (s s' : Meaning) (slot slot' : SlotState) (id : ℕ) (event : Event) (r : Result ℕ StoreFault) : Type 0 where
+  pub answer : Says s s' slot id r
+  pub left : slot' ≡ leaves event r

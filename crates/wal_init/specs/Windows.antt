@@ -1,12 +1,12 @@
--- What a window means, and what each of its calls does.
+-- What a window is in contracts, and what each of its calls does.
 use Rattle.std.specs.Prelude.{◌≡◌, ℕ, ◌+◌, ◌-◌, ◌<◌, ◌≤◌, min, Bool, true, false, ◌&&◌, List, [], ◌∷◌, ◌++◌, drop, replicate, Some, None, Option, Result, nat_lt, slice_index_or, slice_set}
 use Rattle.store.specs.declared.fault.StoreFault.{StoreFault}
 use Rattle.store.specs.Meaning.{Meaning}
 use Rattle.store.specs.Calls.{Head}
-use Rattle.wal_init.specs.declared.slot.Slot.{Slot}
-use Rattle.wal_init.specs.declared.window.Window.{Window}
+use Rattle.wal_init.specs.declared.slot.SlotState.{SlotState}
+use Rattle.wal_init.specs.declared.slot.SlotState.TheVariants.{Waiting}
 use Rattle.wal_init.specs.declared.window.Front.{Front}
-use Rattle.wal_init.specs.Slots.{is_waiting, keeps, Says, free}
+use Rattle.wal_init.specs.Slots.{is_waiting, keeps, Says}
 
 pub record Windowed : Type 0 where
   -- the next unread id, and the last to read
@@ -15,14 +15,11 @@ pub record Windowed : Type 0 where
   -- how many slots there are at most
   pub most : ℕ
   -- for the next id and those behind it
-  pub slots : List Slot
-
-abbrev pub window_means : Window → Windowed
-window_means w = record { next = w.next; end = w.end; most = w.most; slots = w.slots }
+  pub slots : List SlotState
 
 -- a window of which no file was asked for
 abbrev pub begun : ℕ → ℕ → ℕ → Windowed
-begun next end most = record { next = next; end = end; most = most; slots = replicate 16 free }
+begun next end most = record { next = next; end = end; most = most; slots = replicate 16 Waiting }
 
 -- a window with nothing left to read
 abbrev pub over : Windowed → Windowed
@@ -33,20 +30,20 @@ abbrev pub open_slots : Windowed → ℕ
 open_slots w = min w.most (w.end + 1 - w.next)
 
 -- the slot so far behind the front
-abbrev pub slot_at : Windowed → ℕ → Slot
-slot_at w k = slice_index_or w.slots k free
+abbrev pub slot_at : Windowed → ℕ → SlotState
+slot_at w k = slice_index_or w.slots k Waiting
 
 -- there is a slot so far behind the front, and it was not asked
 abbrev pub unasked : Windowed → ℕ → Bool
-unasked w k = nat_lt k (open_slots w) && is_waiting (slot_at w k).state
+unasked w k = nat_lt k (open_slots w) && is_waiting (slot_at w k)
 
 -- the window with an answer kept in one slot
 abbrev pub with_answer : Windowed → ℕ → Result ℕ StoreFault → Windowed
-with_answer w k a = record { next = w.next; end = w.end; most = w.most; slots = slice_set w.slots k (record { state = keeps a }) }
+with_answer w k a = record { next = w.next; end = w.end; most = w.most; slots = slice_set w.slots k (keeps a) }
 
 -- the window behind the front
 abbrev pub moved_on : Windowed → Windowed
-moved_on w = record { next = w.next + 1; end = w.end; most = w.most; slots = drop 1 w.slots ++ free ∷ [] }
+moved_on w = record { next = w.next + 1; end = w.end; most = w.most; slots = drop 1 w.slots ++ Waiting ∷ [] }
 
 -- asked for, with the answer kept in that slot; else nothing changes
 abbrev pub Asks : Meaning → Meaning → Windowed → Windowed → ℕ → Bool → Type 0
@@ -62,7 +59,7 @@ pub record Arrives (s s' : Meaning) (w w' : Windowed) (k : ℕ) (r : Bool) : Typ
 abbrev pub Fronts : Meaning → Meaning → Windowed → Windowed → Option Front → Type 0
 Fronts s s' w w' None = (w.end < w.next) × (s' ≡ s) × (w' ≡ w)
 Fronts s s' w w' (Some f) =
-    (w.next ≤ w.end) × (f.wal_id ≡ w.next) × Says s s' (slot_at w 0).state w.next f.answer × (w' ≡ moved_on w)
+    (w.next ≤ w.end) × (f.wal_id ≡ w.next) × Says s s' (slot_at w 0) w.next f.answer × (w' ≡ moved_on w)
 
 pub record Takes (s s' : Meaning) (w w' : Windowed) (r : Option Front) : Type 0 where
   pub front : Fronts s s' w w' r

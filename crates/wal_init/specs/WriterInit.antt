@@ -1,19 +1,20 @@
 -- What an opening says and leaves, from what the store meant before it.
 use Rattle.std.specs.Prelude.{◌≡◌, ℕ, ◌+◌, ◌^◌, ◌≤◌, Bool, true, false, cond, ◌||◌, ◌⊎◌, [], ◌∷◌, Ok, Err, Result, ◌==◌, nat_eq, nat_lt, slice_index}
 use Rattle.causes.specs.Said.{Said, refused, granted}
-use Rattle.rows.specs.declared.block.BlockSize.{BlockSize}
 use Rattle.store.specs.Meaning.{Held, Meaning}
 use Rattle.wal.specs.declared.fault.WalFault.{WalFault}
 use Rattle.wal.specs.Said.{fault}
 use Rattle.wal.specs.Tails.{tail_says, CutOff}
 use Rattle.wal_init.specs.declared.record.ManifestRecord.{ManifestRecord}
 use Rattle.wal_init.specs.declared.record.Options.{Options}
+use Rattle.wal_init.specs.declared.arguments.Arguments.{Arguments}
 use Rattle.wal_init.specs.declared.grant.Grant.{Grant}
+use Rattle.wal_init.specs.declared.wal_id.WalId.{WalId}
 use Rattle.wal_init.specs.Fences.{Fenced}
 
 -- what an answer of an id says
-abbrev pub said_id : Result ℕ WalFault → Said
-said_id (Ok n) = granted (n ∷ [])
+abbrev pub said_id : Result WalId WalFault → Said
+said_id (Ok n) = granted (n.number ∷ [])
 said_id (Err f) = fault f
 
 -- what an opening says: its fence and the puts that it took
@@ -50,9 +51,9 @@ begin_says h m id = cond (nat_lt m.replay_after_wal_id id) (granted (id ∷ []))
 abbrev pub start_says : Held → ManifestRecord → ℕ → Options → Said
 start_says h m id o = cond ((first_says m id o).number == 0) (begin_says h m id) (first_says m id o)
 
--- what stands against the arguments, or the block size that they give
-abbrev pub Checked : ManifestRecord → ℕ → Options → Result BlockSize WalFault → Type 0
-Checked m id o (Ok b) = (first_says m id o ≡ granted []) × (b.bytes ≡ o.block_size)
+-- what stands against the arguments, or the arguments with the block size that they give
+abbrev pub Checked : ManifestRecord → ℕ → Options → Result Arguments WalFault → Type 0
+Checked m id o (Ok a) = (first_says m id o ≡ granted []) × (a.manifest ≡ m) × (a.id.number ≡ id) × (a.options ≡ o) × (a.block.bytes ≡ o.block_size)
 Checked m id o (Err f) = first_says m id o ≡ fault f
 
 -- the tail that an opening needs met the store's own fault

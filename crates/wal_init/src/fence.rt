@@ -1,14 +1,11 @@
 //! The fence of an opening: an empty file at the first id that has none.
 
-ghost use Rattle.std.specs.Prelude.{◌^◌, ◌≤◌, IfOk};
-ghost use Rattle.wal_init.specs.Fences.{FencePut, Fenced};
-ghost use Rattle.wal.specs.Said.{said_pair};
+ghost use Rattle.std.specs.Prelude.{◌≤◌, IfOk};
+ghost use Rattle.wal_init.specs.Fences.{FencePut, Fenced, said_fence};
 
+use super::wal_id::WalId;
 use store::{Store, StoreFault};
 use wal::WalFault;
-
-/// The last id that a file may have, 2^62.
-pub const LAST_ID: u64 = 4_611_686_018_427_387_904;
 
 /// The most fences that one opening puts.
 const MOST_ATTEMPTS: u64 = 4096;
@@ -25,25 +22,22 @@ fn write_wal_fence<S: Store>(store: &mut S, id: u64) -> Result<bool, StoreFault>
 }
 
 /// Puts a fence at the first free id from one on, and answers that id and how many puts it took.
-pub fn write_fence<S: Store>(store: &mut S, start: u64) -> Result<(u64, u64), WalFault>
-    requires { start ≤ 2 ^ 62 }
-    ensures fenced { Fenced (S.Store.means store.old) (S.Store.means store.new) start (said_pair result) }
-    ensures within { IfOk result (λ p. (start ≤ p.0) × (p.0 ≤ 2 ^ 62)) }
+pub fn write_fence<S: Store>(store: &mut S, start: WalId) -> Result<(WalId, u64), WalFault>
+    ensures fenced { Fenced (S.Store.means store.old) (S.Store.means store.new) start.number (said_fence result) }
+    ensures behind { IfOk result (λ p. start.number ≤ p.0.number) }
 {
+    // kept: the id and the attempts leave the loop by a break, which a `for` over the attempts has not
     let mut id = start;
     let mut attempts = 0;
     let fence = loop {
         attempts += 1;
-        if write_wal_fence(store, id)? {
+        if write_wal_fence(store, id.number)? {
             break (id, attempts);
         }
         if attempts == MOST_ATTEMPTS {
-            return Err(WalFault::Attempts(id));
+            return Err(WalFault::Attempts(id.number));
         }
-        id += 1;
-        if id > LAST_ID {
-            return Err(WalFault::IdsSpent(id));
-        }
+        id = WalId::try_from(id.number + 1)?;
     };
     Ok(fence)
 }

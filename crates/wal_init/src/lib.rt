@@ -1,12 +1,14 @@
 //! The opening of a journal: its fence, and the window of the files that are read next.
 #![tactic(auto)]
 
+mod arguments;
 mod fence;
 mod grant;
 mod laws;
 mod opening;
 mod record;
 mod slot;
+mod wal_id;
 mod window;
 mod writer_init;
 

@@ -1,8 +1,7 @@
 //! The window of an opening: the next files to read, each asked for once.
 
-ghost use Rattle.std.specs.Prelude.{◌≡◌, ◌+◌, ◌^◌, ◌<◌, ◌≤◌, length};
-
-use super::slot::Slot;
+use super::slot::SlotState;
+use std::marker::Model;
 use store::StoreFault;
 
 mod moves;
@@ -14,14 +13,21 @@ pub const MOST_SLOTS: usize = 16;
 #[derive(Drop)]
 pub struct Window {
     next: u64,
-    pub(crate) end: u64,
+    end: u64,
     most: usize,
-    slots: [Slot; MOST_SLOTS],
-    ghost small: { end ≤ 2 ^ 62 },
-    ghost covered: { next ≤ end + 1 },
-    ghost some: { 0 < most },
-    ghost narrow: { most ≤ 16 },
-    ghost long: { length slots ≡ 16 },
+    // kept: how many count follows from the three numbers, and no length is stored: an ArrayVec's would be one more to hold in step
+    slots: [SlotState; MOST_SLOTS],
+}
+
+impl Model for Window {
+    ghost use Rattle.std.specs.Prelude.{◌≡◌, ◌+◌, ◌^◌, ◌<◌, ◌≤◌, length};
+    ghost use Rattle.wal_init.specs.Windows.{Windowed};
+
+    ghost Value = { Windowed };
+
+    ghost view = { λ w. record { next = w.next; end = w.end; most = w.most; slots = w.slots } };
+
+    ghost invariant = { λ w. (w.end ≤ 2 ^ 62) × (w.next ≤ w.end + 1) × (0 < w.most) × (w.most ≤ 16) × (length w.slots ≡ 16) };
 }
 
 /// A file whose turn has come: its id, and what the store answered when it was asked for it.

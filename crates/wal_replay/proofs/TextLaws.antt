@@ -1,5 +1,6 @@
 -- A sound text read row by row, and that a text is read in one way only.
-use Rattle.std.proofs.Common.{◌≡◌, ℕ, ◌+◌, ◌<◌, ◌≤◌, Bool, true, false, List, [], ◌∷◌, ◌++◌, length, take, drop, Ok, sym, refl, ap, ◌∙◌, subst, ⊎_elim, arith, length-append, length-drop}
+use Rattle.std.proofs.Common.{◌≡◌, ℕ, ◌+◌, ◌<◌, ◌≤◌, Bool, true, false, List, [], ◌∷◌, ◌++◌, length, take, drop, Ok, Err, Result, sym, refl, ap, ◌∙◌, subst, ⊎_elim, arith, length-append, length-drop}
+use Rattle.std.specs.Result.{IsOk}
 use Rattle.std.specs.List.{flat_map, AllByRecursion}
 use Rattle.std.proofs.lemmas.List.{take-append-drop, take_at, append_assoc, append_cancel_left}
 use Rattle.std.proofs.lemmas.Bool.{cases_order}
@@ -22,6 +23,11 @@ whole t p s = (
 -- a sound text has no damage
 pub no_damage : (t : List ℕ) (p : ℕ) (d : Damage) → Sound t p → Reported t p d → ⊥
 no_damage t p d s told = (told s.before.0 s.before.1).bad (whole t p s)
+
+-- so a reader goes on there
+pub goes_on : (t : List ℕ) (p q : ℕ) (was is : Row) (r : Result Bool Damage) → Sound t p → Advances t p q was is r → IsOk r
+goes_on t p q was is (Ok b) s a = refl
+goes_on t p q was is (Err d) s a = absurd (no_damage t p d s a.0)
 
 -- damage that is reported at the beginning
 pub damage_here : (t u : List ℕ) (p : ℕ) (d : Damage) → u ≡ t → p ≡ 0 → Reported u p d → DamagedText t d

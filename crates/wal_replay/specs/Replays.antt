@@ -1,15 +1,13 @@
--- What a replay means, and what becomes of it file by file.
+-- What a replay is in contracts, and what becomes of it file by file.
 use Rattle.std.specs.Prelude.{◌≡◌, ℕ, max, Bool, true, false, cond, List, ℤ, Some, None, Option, ◌==◌}
-use Rattle.std.specs.Option.{unwrap_or, option_map}
+use Rattle.std.specs.Option.{unwrap_or}
 use Rattle.causes.specs.Said.{Said}
 use Rattle.rows.specs.Rows.{Row}
 use Rattle.store.specs.Meaning as store
 use Rattle.wal_init.specs.Opening as opening
 use Rattle.wal_init.specs.Windows.{moved_on, slot_at}
 use Rattle.wal_init.specs.declared.slot.SlotState.{SlotState}
-use Rattle.wal_replay.specs.declared.replay.WalReplayIterator.{WalReplayIterator}
 use Rattle.wal_replay.specs.declared.replay.ReplayedMemtable.{ReplayedMemtable}
-use Rattle.wal_replay.specs.Said.{said}
 use Rattle.wal_replay.specs.Rows.{kept, span, latest_tick, latest_seq}
 
 pub record Meaning : Type 0 where
@@ -26,18 +24,6 @@ pub record Meaning : Type 0 where
   pub standing : Option Said
   -- a call said the end
   pub ended : Bool
-
-abbrev pub meaning : WalReplayIterator → Meaning
-meaning s = record {
-  opening = opening.means s.opening;
-  latest_tick = s.last_tick;
-  latest_seq = s.last_seq;
-  last_wal = s.last_consumed_wal_file_id;
-  greatest = s.greatest;
-  floor = s.floor;
-  standing = option_map said s.terminal_result;
-  ended = s.ended;
-}
 
 -- a replay of which nothing was read
 abbrev pub begun : opening.Meaning → Meaning
@@ -60,7 +46,7 @@ abbrev pub fence : Meaning → ℕ
 fence m = m.opening.window.end
 
 abbrev pub first_slot : Meaning → SlotState
-first_slot m = (slot_at m.opening.window 0).state
+first_slot m = slot_at m.opening.window 0
 
 -- rows at or below it are skipped
 abbrev pub watermark : Meaning → ℕ

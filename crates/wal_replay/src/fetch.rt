@@ -11,10 +11,10 @@ use wal_init::Front;
 fn found(answer: Result<usize, StoreFault>) -> Result<usize, WalFault>
     ensures { said_length result ≡ met_length answer }
 {
-    if let Err(StoreFault::Missing(id)) = answer {
-        return Err(WalFault::WalTruncated(id));
-    }
-    Ok(answer?)
+    answer.map_err(|fault| match fault {
+        StoreFault::Missing(id) => WalFault::WalTruncated(id),
+        other => WalFault::from(other),
+    })
 }
 
 /// Reads a file that was asked for into the buffer's beginning.

@@ -15,10 +15,7 @@ pub fn put_rows<T: Table>(table: &mut T, text: &[u8], watermark: u64)
     while more(&mut reader) {
         let row = reader.row();
         if watermark < row.seq {
-            match table.put(row) {
-                Ok(()) => (),
-                Err(_) => unreachable(),
-            }
+            table.put(row).unwrap();
         }
     }
 }

@@ -3,7 +3,7 @@
 ghost use Rattle.std.specs.Prelude.{◌≡◌, ◌+◌, ◌^◌, ◌<◌, Option};
 ghost use Rattle.rows.specs.Entries.{row_of};
 ghost use Rattle.rows.specs.Reading.{text_of, row_under};
-ghost use Rattle.rows.specs.Sizes.{weight as weight-of};
+ghost use Rattle.rows.specs.Sizes.{weight};
 ghost use Rattle.wal_replay.specs.Rows.{raised, widen};
 ghost use Rattle.wal_replay.specs.Texts.{Sound, Moves, see, Surveyed};
 
@@ -30,43 +30,29 @@ pub fn more(reader: &mut Reader<'_>) -> bool
     ensures text { reader.new.text ≡ reader.old.text }
     ensures moves { Moves (text_of reader.old) reader.old.place reader.new.place (row_under reader.new) result }
 {
-    match reader.advance() {
-        Ok(went) => went,
-        Err(_) => unreachable(),
-    }
+    reader.advance().unwrap()
 }
 
 /// The least and the greatest number with one more.
 fn widened(span: Option<(u64, u64)>, seq: u64) -> Option<(u64, u64)>
     ensures { result ≡ widen span seq }
 {
-    match span {
-        None => Some((seq, seq)),
-        Some((least, greatest)) => Some((least.min(seq), greatest.max(seq))),
-    }
+    Some(span.map_or((seq, seq), |(least, greatest)| {
+        (least.min(seq), greatest.max(seq))
+    }))
 }
 
 /// A tick raised by another, where there is one.
 fn raised_tick(tick: i64, create_ts: Option<i64>) -> i64
     ensures { result ≡ raised tick create_ts }
 {
-    match create_ts {
-        Some(ts) => tick.max(ts),
-        None => tick,
-    }
-}
-
-/// The bytes of key and value.
-fn weight(row: RowEntry<'_>) -> usize
-    ensures { result ≡ weight-of (row_of row.entry) }
-{
-    row.key.len() / 2 + row.value.digits().len() / 2
+    create_ts.map_or(tick, |ts| tick.max(ts))
 }
 
 impl Survey {
     /// With one row more.
     fn see(self, watermark: u64, row: RowEntry<'_>) -> Survey
-        requires { self.count + self.bytes + weight-of (row_of row) + 1 < 2 ^ 64 }
+        requires { self.count + self.bytes + weight (row_of row) + 1 < 2 ^ 64 }
         ensures { result ≡ see watermark self (row_of row.entry) }
     {
         let span = widened(self.span, row.seq);
@@ -74,18 +60,12 @@ impl Survey {
             Survey {
                 span,
                 count: self.count + 1,
-                bytes: self.bytes + weight(row),
+                bytes: self.bytes + row.weight(),
                 last_tick: raised_tick(self.last_tick, row.create_ts),
                 last_seq: self.last_seq.max(row.seq),
             }
         } else {
-            Survey {
-                span,
-                count: self.count,
-                bytes: self.bytes,
-                last_tick: self.last_tick,
-                last_seq: self.last_seq,
-            }
+            Survey { span, ..self }
         }
     }
 }

@@ -2,9 +2,8 @@
 
 ghost use Rattle.std.specs.Prelude.{◌≡◌, ◌≤◌, true, false, [], length, is_some};
 ghost use Rattle.mem_table.specs.Meaning.{Listed};
-ghost use Rattle.wal_init.specs.Opening.{means};
 ghost use Rattle.wal_replay.specs.Said.{said};
-ghost use Rattle.wal_replay.specs.Replays.{meaning, begun, handed, heard, Arrived};
+ghost use Rattle.wal_replay.specs.Replays.{begun, heard, Arrived};
 ghost use Rattle.wal_replay.specs.Next.{Reading, Next, Weighed, at_once, closed, closing, told, tells};
 
 use super::{ReplayedMemtable, WalReplayIterator};
@@ -21,14 +20,16 @@ const BUFFER_SIZE: usize = 16384;
 impl WalReplayIterator {
     /// The replay of an opening, of which nothing was read.
     pub fn new(opening: Opening) -> WalReplayIterator
-        ensures { meaning result ≡ begun (means opening) }
+        ensures { result ≡ begun opening }
     {
         let manifest = opening.manifest();
         WalReplayIterator {
             opening,
-            last_tick: manifest.last_l0_clock_tick,
-            last_seq: manifest.last_l0_seq,
-            last_consumed_wal_file_id: manifest.replay_after_wal_id,
+            last: ReplayedMemtable {
+                last_tick: manifest.last_l0_clock_tick,
+                last_seq: manifest.last_l0_seq,
+                last_wal_id: manifest.replay_after_wal_id,
+            },
             greatest: None,
             floor: manifest.last_l0_seq,
             terminal_result: None,
@@ -38,7 +39,7 @@ impl WalReplayIterator {
 
     /// Asks for the file so far behind the front, once, and says whether it asked.
     pub fn arrive<S: Store>(&mut self, store: &mut S, k: usize) -> bool
-        ensures arrived { Arrived (S.Store.means store.old) (S.Store.means store.new) (meaning self.old) (meaning self.new) k result }
+        ensures arrived { Arrived (S.Store.means store.old) (S.Store.means store.new) self.old self.new k result }
         ensures untouched { result ≡ false → store.new ≡ store.old }
     {
         self.opening.arrive(store, k)
@@ -46,7 +47,7 @@ impl WalReplayIterator {
 
     /// Whether a table has come to the size at which it is handed out.
     fn is_ripe<T: Table>(&self, table: &T) -> bool
-        ensures { Weighed (meaning self.now) (T.Table.means table.now) result }
+        ensures { Weighed self.now (T.Table.means table.now) result }
     {
         let (count, size) = table.metadata();
         if count == 0 {
@@ -57,23 +58,12 @@ impl WalReplayIterator {
         bytes >= u128::from(self.opening.options().max_memtable_bytes)
     }
 
-    /// What goes with a table that is handed out now.
-    fn replayed(&self) -> ReplayedMemtable
-        ensures { result ≡ handed (meaning self.now) }
-    {
-        ReplayedMemtable {
-            last_tick: self.last_tick,
-            last_seq: self.last_seq,
-            last_wal_id: self.last_consumed_wal_file_id,
-        }
-    }
-
     /// Says what stands, and notes that the end was said.
     fn answer(
         &mut self,
         res: Result<(), ReplayFault>,
     ) -> Result<Option<ReplayedMemtable>, ReplayFault>
-        ensures state { meaning self.new ≡ heard (meaning self.old) (said res) }
+        ensures state { self.new ≡ heard self.old (said res) }
         ensures answer { told result ≡ tells (said res) }
     {
         match res {
@@ -91,13 +81,13 @@ impl WalReplayIterator {
         applied_any: bool,
         res: Result<(), ReplayFault>,
     ) -> Result<Option<ReplayedMemtable>, ReplayFault>
-        ensures state { meaning self.new ≡ closed applied_any (meaning self.old) (said res) }
-        ensures answer { told result ≡ closing applied_any (meaning self.old) (said res) }
+        ensures state { self.new ≡ closed applied_any self.old (said res) }
+        ensures answer { told result ≡ closing applied_any self.old (said res) }
     {
         self.opening.terminate();
         self.terminal_result = Some(res);
         if applied_any {
-            return Ok(Some(self.replayed()));
+            return Ok(Some(self.last));
         }
         self.answer(res)
     }
@@ -111,20 +101,17 @@ impl WalReplayIterator {
     ) -> Result<Option<ReplayedMemtable>, ReplayFault>
         requires buffer { 16384 ≤ length buffer.old }
         requires table { (Listed (T.Table.means table.old)) × ((T.Table.means table.old).order ≡ []) }
-        ensures { Reading (S.Store.means store.old) (S.Store.means store.new) (meaning self.old) (meaning self.new) (T.Table.means table.old) (T.Table.means table.new) buffer.old buffer.new result }
+        ensures { Reading (S.Store.means store.old) (S.Store.means store.new) self.old self.new (T.Table.means table.old) (T.Table.means table.new) buffer.old buffer.new result }
     {
         let mut applied_any = false;
         loop {
-            let went = match self.take_file(store, table, buffer) {
-                Ok(went) => went,
+            match self.take_file(store, table, buffer) {
+                Ok(true) => applied_any = true,
+                Ok(false) => return self.close(applied_any, Ok(())),
                 Err(fault) => return self.close(applied_any, Err(fault)),
-            };
-            if !went {
-                return self.close(applied_any, Ok(()));
             }
-            applied_any = true;
             if self.is_ripe(table) {
-                return Ok(Some(self.replayed()));
+                return Ok(Some(self.last));
             }
         }
     }
@@ -136,8 +123,8 @@ impl WalReplayIterator {
         table: &mut T,
         buffer: &mut [u8],
     ) -> Result<Option<ReplayedMemtable>, ReplayFault>
-        ensures call { Next (S.Store.means store.old) (S.Store.means store.new) (meaning self.old) (meaning self.new) (T.Table.means table.old) (T.Table.means table.new) buffer.old buffer.new result }
-        ensures untouched { is_some (at_once (meaning self.old) (T.Table.means table.old) buffer.old) ≡ true → store.new ≡ store.old }
+        ensures call { Next (S.Store.means store.old) (S.Store.means store.new) self.old self.new (T.Table.means table.old) (T.Table.means table.new) buffer.old buffer.new result }
+        ensures untouched { is_some (at_once self.old (T.Table.means table.old) buffer.old) ≡ true → store.new ≡ store.old }
     {
         if buffer.len() < BUFFER_SIZE {
             return Err(ReplayFault::Wal(WalFault::Store(StoreFault::Short(BUFFER_SIZE))));
@@ -154,21 +141,21 @@ impl WalReplayIterator {
 
     /// The opening that is replayed.
     pub fn opening(&self) -> &Opening
-        ensures { means result.now ≡ (meaning self.now).opening }
+        ensures { result.now ≡ self.now.opening }
     {
         &self.opening
     }
 
     /// Whether it said the end.
     pub fn has_ended(&self) -> bool
-        ensures { result ≡ (meaning self.now).ended }
+        ensures { result ≡ self.now.ended }
     {
         self.ended
     }
 
     /// The greatest number read, or the record's.
     pub fn floor(&self) -> u64
-        ensures { result ≡ (meaning self.now).floor }
+        ensures { result ≡ self.now.floor }
     {
         self.floor
     }

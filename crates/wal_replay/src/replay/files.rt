@@ -5,10 +5,10 @@ ghost use Rattle.causes.specs.Said.{granted};
 ghost use Rattle.rows.specs.Rows.{Row};
 ghost use Rattle.wal.specs.Said.{fault as wal-fault};
 ghost use Rattle.wal_replay.specs.Said.{said};
-ghost use Rattle.wal_replay.specs.Replays.{meaning, watermark, raised_to, topped};
+ghost use Rattle.wal_replay.specs.Replays.{watermark, raised_to, topped};
 ghost use Rattle.wal_replay.specs.Files.{disorder, said_order, RoomChecked, TextTaken, Taken, passed};
 
-use super::WalReplayIterator;
+use super::{ReplayedMemtable, WalReplayIterator};
 use crate::ReplayFault;
 use crate::fetch::fetch;
 use crate::filling::put_rows;
@@ -21,20 +21,16 @@ use wal::WalFault;
 fn check_order(id: u64, greatest: Option<u64>, span: Option<(u64, u64)>) -> Result<(), WalFault>
     ensures { said_order result ≡ disorder id greatest span }
 {
-    match (greatest, span) {
-        (Some(greatest), Some((least, _))) => {
-            if least <= greatest {
-                Err(WalFault::InternalError {
-                    id,
-                    least,
-                    greatest,
-                })
-            } else {
-                Ok(())
-            }
-        }
-        _ => Ok(()),
+    if let (Some(greatest), Some((least, _))) = (greatest, span)
+        && least <= greatest
+    {
+        return Err(WalFault::InternalError {
+            id,
+            least,
+            greatest,
+        });
     }
+    Ok(())
 }
 
 /// Checks that a table has the room for so many rows and bytes.
@@ -51,12 +47,10 @@ fn check_room<T: Table>(table: &T, id: u64, count: usize, bytes: usize) -> Resul
 impl WalReplayIterator {
     /// Rows at or below it are skipped.
     fn watermark(&self) -> u64
-        ensures { result ≡ watermark (meaning self.now) }
+        ensures { result ≡ watermark self.now }
     {
-        match self.opening.options().min_seq {
-            Some(seq) => seq,
-            None => self.opening.manifest().last_l0_seq,
-        }
+        let recorded = self.opening.manifest().last_l0_seq;
+        self.opening.options().min_seq.unwrap_or(recorded)
     }
 
     /// Puts the rows of a text above the watermark, all of them or none.
@@ -66,19 +60,16 @@ impl WalReplayIterator {
         id: u64,
         text: &[u8],
     ) -> Result<Survey, ReplayFault>
-        ensures { TextTaken id (meaning self.now) (T.Table.means table.old) (T.Table.means table.new) text.now result }
+        ensures { TextTaken id self.now (T.Table.means table.old) (T.Table.means table.new) text.now result }
     {
         let watermark = self.watermark();
-        let seen = match look_over(text, watermark, self.last_tick, self.last_seq) {
-            Ok(seen) => seen,
-            Err(damage) => {
-                return Err(ReplayFault::Wal(WalFault::DataError {
-                    file: id,
-                    line: damage.line,
-                    place: damage.place,
-                }));
-            }
-        };
+        let seen = look_over(text, watermark, self.last.last_tick, self.last.last_seq).map_err(
+            |damage| WalFault::DataError {
+                file: id,
+                line: damage.line,
+                place: damage.place,
+            },
+        )?;
         check_order(id, self.greatest, seen.span)?;
         check_room(table, id, seen.count, seen.bytes)?;
         put_rows(table, text, watermark);
@@ -87,11 +78,13 @@ impl WalReplayIterator {
 
     /// Notes a file that was read.
     fn note(&mut self, id: u64, seen: Survey)
-        ensures { meaning self.new ≡ passed (meaning self.old) id seen }
+        ensures { self.new ≡ passed self.old id seen }
     {
-        self.last_tick = seen.last_tick;
-        self.last_seq = seen.last_seq;
-        self.last_consumed_wal_file_id = id;
+        self.last = ReplayedMemtable {
+            last_tick: seen.last_tick,
+            last_seq: seen.last_seq,
+            last_wal_id: id,
+        };
         if let Some((_, greatest)) = seen.span {
             self.greatest = Some(greatest);
             self.floor = self.floor.max(greatest);
@@ -106,7 +99,7 @@ impl WalReplayIterator {
         buffer: &mut [u8],
     ) -> Result<bool, ReplayFault>
         requires { 16384 ≤ length buffer.old }
-        ensures { Taken (S.Store.means store.old) (S.Store.means store.new) (meaning self.old) (meaning self.new) (T.Table.means table.old) (T.Table.means table.new) buffer.old buffer.new result }
+        ensures { Taken (S.Store.means store.old) (S.Store.means store.new) self.old self.new (T.Table.means table.old) (T.Table.means table.new) buffer.old buffer.new result }
     {
         let Some(front) = self.opening.take_front(store) else {
             return Ok(false);

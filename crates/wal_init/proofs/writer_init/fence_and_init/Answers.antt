@@ -9,9 +9,10 @@ pub returns-in_err-fence : goal.returns-in_err-fence
 returns-in_err-fence g c =
     let m = c.args.manifest in
     let p = err_from_is_err_and c.from_residual-in_err-fence.result c.from_residual-in_err-fence.ensures.1 in
-    let e : first_says m c.args.id c.args.options ≡ granted [] = c.in_ok-block.ensures.checked.0 in
+    let a = c.in_ok-arguments.ensures in
+    let e : first_says m c.args.id c.args.options ≡ granted [] = a.0 in
     rw (p.1, p.2)
     record {
-      opened = refused_fence _ _ _ m c.args.id c.args.options c.in_ok-start.start _ e c.in_ok-start.ensures.begins c.in_err-fence.ensures.fenced;
+      opened = refused_fence _ _ _ m c.args.id c.args.options c.in_ok-start.start.number _ e (rw (a.1, a.2) at c.in_ok-start.ensures.begins) c.in_err-fence.ensures.fenced;
       untouched = λ f. absurd (no_cause m c.args.id c.args.options e f);
     }

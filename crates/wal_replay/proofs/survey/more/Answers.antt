@@ -1,9 +1,9 @@
 use Rattle.std.proofs.Common.{refl}
-use Rattle.wal_replay.proofs.TextLaws.{moves, no_damage}
+use Rattle.wal_replay.proofs.TextLaws.{moves, goes_on}
 use Rattle.wal_replay.proofs.survey.more.Goals as goal
 
-pub unreachable-requires : goal.unreachable-requires
-unreachable-requires c = no_damage _ _ _ c.requires c.in-Err.ensures.answer.0
+pub unwrap-requires : goal.unwrap-requires
+unwrap-requires c = goes_on _ _ _ _ _ _ c.requires c.advance.ensures.answer
 
 pub returns : goal.returns
-returns c = record { text = c.advance.ensures.text; moves = moves _ _ _ _ _ _ _ refl c.requires c.in-Ok.ensures.answer }
+returns c = record { text = c.advance.ensures.text; moves = moves _ _ _ _ _ _ _ refl c.requires (rw c.unwrap.ensures at c.advance.ensures.answer) }

@@ -1,10 +1,12 @@
 use Rattle.std.proofs.Common.{arith}
-use Rattle.wal_init.specs.Windows.{window_means}
 use Rattle.wal_init.proofs.Slotting.{arrives}
 use Rattle.wal_init.proofs.window.Window.arrive.Goals as goal
 
 pub returns : goal.returns
-returns g c = record {
-  arrives = arrives (g.S.Store.means c.args.store.now) (g.S.Store.means c.meet-asked.new.store) (window_means c.args.self.now) c.args.k c.meet-asked.new.self c.meet-asked.result.0 c.meet-asked.result.1 (omega (arith, c.open_slots.ensures.value, c.if-k-open_slots.false)) c.meet-asked.ensures.met;
-  untouched = c.meet-asked.ensures.untouched;
-}
+returns g c =
+    let few = rw (← c.self.view_is) at c.open_slots.ensures.value in
+    rw (c.is_waiting-asks.ensures, ← c.self.view_is)
+    record {
+      arrives = arrives _ _ _ c.args.k c.meet.new.self c.meet.result (omega (arith, few, c.if-k-open_slots.false)) c.meet.ensures.met;
+      untouched = c.meet.ensures.untouched;
+    }
