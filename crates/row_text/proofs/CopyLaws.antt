@@ -1,5 +1,5 @@
 -- Rows of a text written again one by one.
-use Rattle.std.proofs.Common.{◌≡◌, ℕ, ◌+◌, ◌≤◌, Bool, true, List, [], ◌∷◌, ◌++◌, length, take, drop, is_err, Ok, Err, Result, sym, refl, ap, ◌∙◌, subst, append_assoc, append-nil}
+use Rattle.std.proofs.Common.{◌≡◌, ℕ, ◌≤◌, true, List, [], ◌∷◌, ◌++◌, length, take, drop, is_err, Ok, Err, Result, sym, refl, ap, ◌∙◌, subst, append_assoc, append-nil}
 use Rattle.std.proofs.lemmas.Bool.{false≢true}
 use Rattle.std.proofs.lemmas.List.{take_all, take_at}
 use Rattle.row_text.specs.declared.again.RewriteFault.{RewriteFault}
@@ -7,7 +7,7 @@ use Rattle.row_text.specs.declared.again.RewriteFault.TheVariants.{Damaged, NoMe
 use Rattle.rows.specs.Rows.{Row}
 use Rattle.row_text.specs.Rewriting.{Begun, Rewrites}
 use Rattle.rows.specs.Lines.{line, TextOf, WellFormed}
-use Rattle.rows.specs.Reading.{Handed, Advances}
+use Rattle.rows.specs.Reading.{Handed}
 use Rattle.rows.proofs.Lists.{take_plus}
 use Rattle.rows.proofs.TextLaws.{text_append, text_one}
 
@@ -21,18 +21,16 @@ pub copied_none : (t before : List ℕ) → Copied t before before 0
 copied_none t before = record { rows = []; text = record { valid = tt; text = refl }; out = sym (append-nil before) }
 
 -- one row more
-pub copied_more : (t u before after then : List ℕ) (p q : ℕ) (was r : Row) (went : Bool) → u ≡ t → went ≡ true → Copied t before after p → Advances u p q was r (Ok went) → then ≡ after ++ line r → Copied t before then q × (q ≡ p + length (line r))
-copied_more t u before after then p q was r went e is g a o =
-    let h : Handed t p q r = subst (λ l. Handed l p q r) e (subst (λ w. Advances u p q was r (Ok w)) is a) in
+pub copied_more : (t u before after then : List ℕ) (p q : ℕ) (r : Row) → u ≡ t → Copied t before after p → Handed u p q r → then ≡ after ++ line r → Copied t before then q
+copied_more t u before after then p q r e g a o =
+    let h : Handed t p q r = subst (λ l. Handed l p q r) e a in
     let l : take (length (line r)) (drop p t) ≡ line r = ap (take (length (line r))) h.text ∙ take_at (line r) (drop q t) (length (line r)) refl in
-    let w : take q t ≡ take p t ++ line r = ap (λ k. take k t) h.place ∙ take_plus p (length (line r)) t ∙ ap (λ x. take p t ++ x) l in (
-      record {
-        rows = g.rows ++ (r ∷ []);
-        text = subst (TextOf (g.rows ++ (r ∷ []))) (sym w) (text_append g.rows (r ∷ []) _ _ g.text (text_one r h.valid));
-        out = o ∙ ap (λ x. x ++ line r) g.out ∙ append_assoc before (take p t) (line r) ∙ ap (λ x. before ++ x) (sym w);
-      },
-      h.place,
-    )
+    let w : take q t ≡ take p t ++ line r = ap (λ k. take k t) h.place ∙ take_plus p (length (line r)) t ∙ ap (λ x. take p t ++ x) l in
+    record {
+      rows = g.rows ++ (r ∷ []);
+      text = subst (TextOf (g.rows ++ (r ∷ []))) (sym w) (text_append g.rows (r ∷ []) _ _ g.text (text_one r h.valid));
+      out = o ∙ ap (λ x. x ++ line r) g.out ∙ append_assoc before (take p t) (line r) ∙ ap (λ x. before ++ x) (sym w);
+    }
 
 pub copied_all : (t before after : List ℕ) (p : ℕ) → length t ≤ p → Copied t before after p → WellFormed t × (after ≡ before ++ t)
 copied_all t before after p le g =

@@ -1,3 +1,1 @@
 pub mod CopyLaws
-pub mod SpellLaws
-pub mod WriteLaws

@@ -37,8 +37,8 @@ fn append_rows(text: &[u8], out: &mut Vec<u8>) -> Result<(), RewriteFault>
     ensures { Begun text.now out.old.items out.new.items result }
 {
     let mut reader = Reader::new(text);
-    while reader.advance()? {
-        write_row(reader.row(), out)?;
+    while let Some(row) = reader.next_row()? {
+        write_row(row, out)?;
     }
     Ok(())
 }

@@ -22,9 +22,9 @@ pub fn read_text(text: &[u8]) -> Result<Totals, Damage>
     let mut reader = Reader::new(text);
     let mut rows = 0u64;
     let mut size = 0u128;
-    while reader.advance()? {
+    while let Some(row) = reader.next_row()? {
         rows += 1;
-        size += reader.row().estimated_size() as u128;
+        size += row.estimated_size() as u128;
     }
     Ok(Totals { rows, size })
 }

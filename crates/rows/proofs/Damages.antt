@@ -1,10 +1,10 @@
 -- Damage, from what was read so far.
-use Rattle.std.proofs.Common.{◌≡◌, ℕ, ◌+◌, ◌-◌, ◌<◌, ◌≤◌, List, [], ◌++◌, length, get_or, take, drop, sym, refl, ap, ◌∙◌, subst, ⊎_elim, append_assoc, arith, length-drop}
-use Rattle.std.proofs.lemmas.List.{take-take, take_all, take_at, take-append-drop, take_rest, length-take, get_or_append_left, get_or-take}
+use Rattle.std.proofs.Common.{◌≡◌, ℕ, ◌+◌, ◌-◌, ◌<◌, ◌≤◌, List, [], ◌++◌, length, get_or, take, drop, sym, refl, ap, ◌∙◌, subst, ⊎_elim, append_assoc, arith, length-drop, length-append}
+use Rattle.std.proofs.lemmas.List.{take-take, take_all, take_at, drop_at, take-append-drop, take_rest, length-take, get_or_append_left, get_or-take}
 use Rattle.std.proofs.str.Laws.{order}
 use Rattle.rows.specs.Lines.{Viable}
-use Rattle.rows.specs.Grammar.{Damaged, FieldAt, DamageAt}
-use Rattle.rows.proofs.Lists.{part, take_split}
+use Rattle.rows.specs.Grammar.{Damaged, FieldAt, DamageAt, FrontOf, StuckAt}
+use Rattle.rows.proofs.Lists.{part, take_split, drop_on}
 
 -- where nothing of L has ended up to i, nothing has ended at all
 pub damaged : (L : List ℕ → Type 0) (t : List ℕ) (i : ℕ) → i ≤ length t → Viable L (take i t) → (i < length t → Viable L (take (i + 1) t) → ⊥) → ((m : ℕ) → L (take m (take i t)) → ⊥) → Damaged L t i
@@ -64,16 +64,63 @@ choice {L = L} {M = M} t n only some on d =
           (order 0 m);
     }
 
--- what a reader of `&text[i..]` says, by places of `text`
-pub damage_here : (L : List ℕ → Type 0) (t : List ℕ) (i n : ℕ) → i ≤ length t → Damaged L (take (length t - i) (drop i t)) n → DamageAt L t i (i + n)
-damage_here L t i n le d =
-    let s : n ≡ i + n - i = omega arith in
-    let e = subst (λ l. Damaged L l n) (take_rest t i) d in
-    record { after = omega arith; within = omega (arith, e.longest.within, length-drop i t); damage = subst (Damaged L (drop i t)) s e }
+-- the same said by what is left of t from i on
+pub stuck_at : (L : List ℕ → Type 0) (t left : List ℕ) (i : ℕ) → length left + i ≡ length t → Damaged L t i → StuckAt L t left
+stuck_at L t left i long d =
+    let s : i ≡ length t - length left = omega arith in
+    record { within = omega arith; damage = subst (Damaged L t) s d }
 
-pub field_here : {A : Type 0} (F : A → List ℕ → Type 0) (a : A) (t : List ℕ) (i n : ℕ) → i ≤ length t → n ≤ length (take (length t - i) (drop i t)) → F a (take n (take (length t - i) (drop i t))) → FieldAt F t i a (i + n)
-field_here F a t i n le within f =
-    let s : n ≡ i + n - i = omega arith in
-    let room : n ≤ length (drop i t) = subst (λ l. n ≤ length l) (take_rest t i) within in
-    let g = subst (λ l. F a (take n l)) (take_rest t i) f in
-    record { after = omega arith; within = omega (arith, length-drop i t); field = subst (λ k. F a (take k (drop i t))) s g }
+pub stuck_here : (L : List ℕ → Type 0) (t : List ℕ) (i : ℕ) → Damaged L t i → StuckAt L t (take (length t - i) (drop i t))
+stuck_here L t i d = stuck_at L t _ i (omega (arith, d.longest.within, ap length (take_rest t i), length-drop i t)) d
+
+-- r is the text t from place i on
+pub record From (t : List ℕ) (i : ℕ) (r : List ℕ) : Type 0 where
+  pub within : i ≤ length t
+  pub rest : drop i t ≡ r
+
+-- what a reader says of such a rest, by places of t
+module _ (t : List ℕ) (i : ℕ) (r : List ℕ) (from : From t i r) where
+  long : length t ≡ i + length r
+  long = omega (arith, from.within, length-drop i t, ap length from.rest)
+
+  pub field_at : {A : Type 0} (F : A → List ℕ → Type 0) (a : A) (rest : List ℕ) → FrontOf F r a rest → FieldAt F t i a (length t - length rest) × From t (length t - length rest) rest
+  field_at F a rest f =
+      let sum : length r ≡ length f.fore + length rest = ap length f.whole ∙ simp length-append refl in
+      let n : length t - length rest - i ≡ length f.fore = omega (arith, long, sum) in
+      let le : i ≤ length t - length rest = omega (arith, long, sum) in
+      let whole : drop i t ≡ f.fore ++ rest = from.rest ∙ f.whole in
+      let fore : take (length t - length rest - i) (drop i t) ≡ f.fore = ap (take (length t - length rest - i)) whole ∙ take_at f.fore rest _ (sym n) in (
+        record { after = le; within = omega arith; field = subst (F a) (sym fore) f.field },
+        record { within = omega arith; rest = sym (drop_on t i (length t - length rest) le) ∙ ap (drop (length t - length rest - i)) whole ∙ drop_at f.fore rest _ (sym n) },
+      )
+
+  pub damage_in : (L : List ℕ → Type 0) (left : List ℕ) → StuckAt L r left → DamageAt L t i (length t - length left)
+  damage_in L left d =
+      let n : length r - length left ≡ length t - length left - i = omega (arith, long, d.within) in
+      record {
+        after = omega (arith, long, d.within);
+        within = omega arith;
+        damage = subst (λ l. Damaged L l (length t - length left - i)) (sym from.rest) (subst (Damaged L r) n d.damage);
+      }
+
+  pub left_within : (L : List ℕ → Type 0) (left : List ℕ) → StuckAt L r left → length left ≤ length t
+  left_within L left d = omega (arith, long, d.within)
+
+pub from_start : (t : List ℕ) → From t 0 t
+from_start t = record { within = omega arith; rest = refl }
+
+pub from_place : (t : List ℕ) (i : ℕ) → i ≤ length t → From t i (take (length t - i) (drop i t))
+from_place t i le = record { within = le; rest = sym (take_rest t i) }
+
+-- and of damage in the whole of t
+pub stuck_from : (L : List ℕ → Type 0) (t left : List ℕ) → DamageAt L t 0 (length t - length left) → length left ≤ length t → StuckAt L t left
+stuck_from L t left d le =
+    let s : length t - length left - 0 ≡ length t - length left = omega arith in
+    record { within = le; damage = subst (Damaged L t) s d.damage }
+
+pub front_from : {A : Type 0} (F : A → List ℕ → Type 0) (t : List ℕ) (a : A) (rest : List ℕ) → FieldAt F t 0 a (length t - length rest) → From t (length t - length rest) rest → FrontOf F t a rest
+front_from F t a rest f from =
+    record { fore = _; field = f.field; whole = sym (take-append-drop (length t - length rest - 0) t) ∙ (ap (λ l. take (length t - length rest - 0) t ++ l) (ap (λ k. drop k t) z ∙ from.rest)) }
+  where
+    z : length t - length rest - 0 ≡ length t - length rest
+    z = omega arith

@@ -1,14 +1,14 @@
 -- Reading a decimal field digit by digit.
-use Rattle.std.proofs.Common.{◌≡◌, ℕ, ◌+◌, ◌-◌, ◌*◌, ◌/◌, ◌%◌, ◌^◌, ◌<◌, ◌≤◌, true, eqb, ◌⊎◌, List, [], ◌∷◌, ◌++◌, length, get_or, take, decimal, sym, refl, ap, ◌∙◌, subst, inl, inr, ⊎_elim, append_assoc, arith, length-append, rules, eq-eqb, true-eqb}
+use Rattle.std.proofs.Common.{◌≡◌, ℕ, ◌+◌, ◌-◌, ◌*◌, ◌/◌, ◌%◌, ◌^◌, ◌<◌, ◌≤◌, true, eqb, ◌⊎◌, List, [], ◌∷◌, ◌++◌, length, get_or, take, drop, decimal, sym, refl, ap, ◌∙◌, subst, inl, inr, ⊎_elim, append_assoc, arith, length-append, rules, eq-eqb, true-eqb}
 use Rattle.std.specs.Int.{IsInRange}
 use Rattle.std.specs.Str.{all_ascii_digits}
 use Rattle.std.proofs.lemmas.Str.Parse.{IsNumeralModel, numerals_by_fold, tells_all_ascii_digits, digit_at, not_in_digits}
 use Rattle.std.proofs.lemmas.Fmt.{digits_decimal, digits_value-decimal, decimal_step, decimal_digit, decimal_nonempty, first_decimal, decimal_injective}
-use Rattle.std.proofs.lemmas.List.{get_or_at, nil_from_length, take_more, length-take, length-take-le, get_or-take}
+use Rattle.std.proofs.lemmas.List.{get_or_at, nil_from_length, take_more, length-take, length-take-le, get_or-take, take-append-drop}
 use Rattle.std.proofs.str.Laws.{order}
 use Rattle.rows.specs.Lines.{Viable}
-use Rattle.rows.specs.Grammar.{Lang, Damaged}
-use Rattle.rows.specs.Fields.{Decimal, DecimalRead, Follows}
+use Rattle.rows.specs.Grammar.{Lang, Damaged, FrontOf}
+use Rattle.rows.specs.Fields.{Decimal, Follows}
 use Rattle.rows.proofs.Lists.{cut, Lacks, lacks_from, closed}
 use Rattle.rows.proofs.Damages.{damaged}
 use Rattle.rows.proofs.Chains.{Apart}
@@ -197,16 +197,16 @@ module _ (low top : ℕ) (little : low ≤ 1) (some : 0 < top) (fit : top < 2 ^ 
         subst (λ l. SoFar low top l (n * 10 + (get_or t i 0 - 48))) (sym (take_more t i 0 lt))
         (more s (get_or t i 0) (subst (λ k. Follows low top n (eqb k 0) (get_or t i 0)) (sym front) f))
 
-    pub done : i < length t → 0 < i → get_or t i 0 ≡ 9 → DecimalRead low top t n (i + 1)
+    pub done : i < length t → 0 < i → get_or t i 0 ≡ 9 → FrontOf (Decimal low top) t n (drop (i + 1) t)
     done lt pos nine =
         record {
-          some = omega arith;
-          within = omega arith;
+          fore = take (i + 1) t;
           field = record {
             above = s.least (omega (arith, front));
             below = s.small;
             written = take_more t i 0 lt ∙ ap (λ c. take i t ++ (c ∷ [])) nine ∙ ap (λ l. l ++ (9 ∷ [])) (s.written (omega (arith, front)));
           };
+          whole = sym (take-append-drop (i + 1) t);
         }
 
   pub decimal_apart : Apart (Decimal low top)

@@ -1,12 +1,15 @@
 -- Reading hexadecimal digits one by one.
-use Rattle.std.proofs.Common.{◌≡◌, ℕ, ◌+◌, ◌%◌, ◌<◌, ◌≤◌, true, ◌⊎◌, List, [], ◌∷◌, ◌++◌, length, get_or, take, sym, refl, ap, ◌∙◌, subst, inl, inr, ⊎_elim, append_assoc, arith, length-append}
-use Rattle.std.proofs.lemmas.List.{get_or_at, get_or_append_left, take_more, length-take, length-take-le, get_or-take}
+use Rattle.std.proofs.Common.{◌≡◌, ℕ, ◌+◌, ◌%◌, ◌<◌, ◌≤◌, min, true, false, Option, Some, None, ◌⊎◌, List, [], ◌∷◌, ◌++◌, length, get_or, take, drop, sym, refl, ap, ◌∙◌, subst, inl, inr, ⊎_elim, append_assoc, arith, length-append}
+use Rattle.std.proofs.lemmas.List.{get_or_at, get_or_append_left, take_more, length-take, length-take-le, get_or-take, take-append-drop}
 use Rattle.std.proofs.lemmas.Bool.Decides.{nat_tests}
 use Rattle.std.proofs.str.Laws.{order}
+use Rattle.std.proofs.lemmas.Bool.{false≢true}
+use Rattle.std.specs.Option.{MatchOption, unwrap_or}
+use Rattle.std.specs.List.{AllWithin, HoldsAt}
 use Rattle.rows.specs.Rows.{hex_digit}
 use Rattle.rows.specs.Lines.{Viable}
-use Rattle.rows.specs.Grammar.{Lang, Damaged}
-use Rattle.rows.specs.Fields.{HexField, HexRead}
+use Rattle.rows.specs.Grammar.{Lang, Damaged, FrontOf}
+use Rattle.rows.specs.Fields.{HexField}
 use Rattle.rows.proofs.Lists.{cut, Lacks, lacks_from, closed}
 use Rattle.rows.proofs.Damages.{damaged}
 use Rattle.rows.proofs.Chains.{Apart}
@@ -29,6 +32,19 @@ more_digits p b l all i lt =
     (λ h. ap hex_digit (get_or_append_left p (b ∷ []) 0 i h) ∙ all i h)
     (λ h. let e : length p ≡ i = omega (arith, simp length-append at lt) in ap hex_digit (get_or_at p b [] 0 i e) ∙ l)
     (order i (length p))
+
+-- what ends at the first byte that is no digit, and after `most` at the latest
+pub run : (most : ℕ) (t : List ℕ) (first : Option ℕ) (m : ℕ) → MatchOption first (AllWithin (λ b. hex_digit b ≡ true) t 0 (length t)) (λ i. (i < length t) × HoldsAt (λ b. hex_digit b ≡ false) t i × AllWithin (λ b. hex_digit b ≡ true) t 0 i) → m ≡ min (unwrap_or first (length t)) most → (m ≤ length t) × SoFar most (take m t) × (m < length t → hex_digit (get_or t m 0) ≡ true → m < most → ⊥)
+run most t None m all e = (
+  omega arith,
+  record { short = omega (arith, length-take m t); digits = λ i lt. ap hex_digit (get_or-take m t i 0 (omega (arith, length-take m t))) ∙ all i 0 (omega arith) (omega (arith, length-take m t)) },
+  λ lt d less. omega arith,
+)
+run most t (Some n) m (lt, bad, all) e = (
+  omega arith,
+  record { short = omega (arith, length-take m t); digits = λ i lt. ap hex_digit (get_or-take m t i 0 (omega (arith, length-take m t))) ∙ all i 0 (omega arith) (omega (arith, length-take m t)) },
+  λ lt d less. let s : m ≡ n = omega arith in false≢true (sym (bad 0) ∙ ap (λ k. hex_digit (get_or t k 0)) (sym s) ∙ d),
+)
 
 module _ (most end : ℕ) (even : most % 2 ≡ 0) (mark : end < 48) where
   abbrev L : List ℕ → Type 0
@@ -87,11 +103,12 @@ module _ (most end : ℕ) (even : most % 2 ≡ 0) (mark : end < 48) where
         subst (SoFar most) (sym (take_more t i 0 lt))
         (record { short = simp length-append (omega (arith, front)); digits = more_digits (take i t) (get_or t i 0) l s.digits })
 
-    pub done : i < length t → i % 2 ≡ 0 → get_or t i 0 ≡ end → HexRead most end t i
+    pub done : i < length t → i % 2 ≡ 0 → get_or t i 0 ≡ end → FrontOf (HexField most end) t (take i t) (drop (i + 1) t)
     done lt pairs e =
         record {
-          within = lt;
+          fore = take (i + 1) t;
           field = record { hex = (ap (λ k. k % 2) front ∙ pairs, s.short, s.digits); written = take_more t i 0 lt ∙ ap (λ c. take i t ++ (c ∷ [])) e };
+          whole = sym (take-append-drop (i + 1) t);
         }
 
   lacks_end : (h w : List ℕ) → HexField most end h w → Lacks end h

@@ -6,6 +6,7 @@ pub mod HexLaws
 pub mod KindLaws
 pub mod TickLaws
 pub mod LineLaws
+pub mod RestLaws
 pub mod TextLaws
 pub mod ReadLaws
 pub mod SeenLaws

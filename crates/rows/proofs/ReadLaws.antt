@@ -1,9 +1,10 @@
 -- A reader's step, from what is read of a line.
-use Rattle.std.proofs.Common.{◌≡◌, ℕ, ◌+◌, ◌-◌, ◌^◌, ◌<◌, ◌≤◌, eqb, List, [], ◌∷◌, ◌++◌, length, get_or, take, drop, decimal, sym, ap, ◌∙◌, subst, ⊎_elim, append_assoc, zero-add, arith, length-append, length-drop}
+use Rattle.std.proofs.Common.{◌≡◌, ℕ, ◌+◌, ◌-◌, ◌^◌, ◌<◌, ◌≤◌, eqb, ◌==◌, cond, true, false, refl, List, [], ◌∷◌, ◌++◌, length, get_or, take, drop, decimal, sym, ap, ◌∙◌, subst, ⊎_elim, append_assoc, zero-add, arith, length-append, length-drop}
 use Rattle.std.proofs.lemmas.Fmt.{decimal_nonempty}
 use Rattle.std.proofs.lemmas.List.{take-append-drop, length-take, length-take-le, get_or_append_left}
 use Rattle.std.proofs.lemmas.Bool.{ne_eqb, cond_both, cond-false}
 use Rattle.std.proofs.str.Laws.{order}
+use Rattle.std.specs.List.{filter}
 use Rattle.rows.specs.declared.types.Damage.{Damage}
 use Rattle.rows.specs.Rows.{Row, Valid}
 use Rattle.rows.specs.Lines.{line, WellFormed, Longest, ends}
@@ -50,6 +51,10 @@ module _ (t : List ℕ) (p : ℕ) where
 ends_le : (bs : List ℕ) → ends bs ≤ length bs
 ends_le [] = omega arith
 ends_le (b ∷ bs) = omega (arith, ends_le bs, cond_both (eqb b 10) 1 0 (λ x. x ≤ 1) (λ _. omega arith) (λ _. omega arith))
+
+pub length-filter-ends : (bs : List ℕ) → length (filter (λ b. b == 10) bs) ≡ ends bs
+length-filter-ends [] = refl
+length-filter-ends (b ∷ bs) = elim (b == 10) as (λ v. length (cond v (b ∷ filter (λ x. x == 10) bs) (filter (λ x. x == 10) bs)) ≡ cond v 1 0 + ends bs) [ true ↦ omega (arith, length-filter-ends bs) | false ↦ omega (arith, length-filter-ends bs) ]
 
 ends_append : (xs ys : List ℕ) → ends (xs ++ ys) ≡ ends xs + ends ys
 ends_append [] ys = sym (zero-add (ends ys))

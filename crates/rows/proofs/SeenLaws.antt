@@ -1,12 +1,10 @@
 -- Rows that were read from a place on.
-use Rattle.std.proofs.Common.{◌≡◌, ℕ, ◌+◌, ◌-◌, ◌*◌, ◌/◌, ◌≤◌, Bool, true, List, [], ◌∷◌, ◌++◌, length, take, drop, ℤ, Some, None, Ok, Option, sym, refl, ap, ◌∙◌, subst, zero-add, arith, length-append, length-drop}
-use Rattle.std.proofs.lemmas.List.{take_at, take_all, length-take-le}
-use Rattle.rows.specs.declared.found.Found.{Found}
+use Rattle.std.proofs.Common.{◌≡◌, ℕ, ◌+◌, ◌-◌, ◌*◌, ◌≤◌, List, [], ◌∷◌, ◌++◌, length, take, drop, ℤ, Some, None, Option, sym, refl, ap, ◌∙◌, subst, zero-add, arith, length-append, length-drop}
+use Rattle.std.proofs.lemmas.List.{take_at, take_all}
 use Rattle.rows.specs.Rows.{Row}
 use Rattle.rows.specs.Lines.{line, TextOf}
 use Rattle.rows.specs.Sizes.{total, weight, size, tick_size}
-use Rattle.rows.specs.Spans.{Within, cut, spans, found_row}
-use Rattle.rows.specs.Reading.{Handed, Advances}
+use Rattle.rows.specs.Reading.{Handed}
 use Rattle.rows.proofs.Lists.{take_plus, drop_on}
 use Rattle.rows.proofs.TextLaws.{text_append, text_one}
 
@@ -60,12 +58,6 @@ seen_all f t s p n b before g h =
 pub seen_end : (f : Row → ℕ) (t : List ℕ) (s p n b : ℕ) → length t ≤ p → (g : Seen f t s p n b) → TextOf g.rows (drop s t)
 seen_end f t s p n b end g = subst (TextOf g.rows) (take_all (p - s) (drop s t) (omega (arith, length-drop s t))) g.text
 
-pub cut_length : (t : List ℕ) (f : Found) → Within t f.key → Within t f.value → weight (found_row t f) ≡ spans f
-cut_length t f k v =
-    let a : length (cut t f.key) ≡ f.key.end - f.key.start = length-take-le _ (drop f.key.start t) (omega (arith, k.0, k.1, length-drop f.key.start t)) in
-    let b : length (cut t f.value) ≡ f.value.end - f.value.start = length-take-le _ (drop f.value.start t) (omega (arith, v.0, v.1, length-drop f.value.start t)) in
-    λ i. a i / 2 + b i / 2
-
 -- a row has no more bytes than its line
 pub weight_le : (r : Row) → weight r + 1 ≤ length (line r)
 weight_le r = simp length-append (omega arith)
@@ -76,10 +68,3 @@ size_le r = omega (arith, weight_le r, tick_le r.created, tick_le r.expires)
     tick_le : (c : Option ℤ) → tick_size c ≤ 8
     tick_le None = omega arith
     tick_le (Some z) = omega arith
-
--- one call of `advance` that went on
-pub seen_advance : (t u : List ℕ) (s p n b q : ℕ) (was r : Row) (went : Bool) → u ≡ t → went ≡ true → Seen size t s p n b → Advances u p q was r (Ok went) → q ≤ length u → Seen size t s q (n + 1) (b + size r) × (q ≡ p + length (line r))
-seen_advance t u s p n b q was r went e is g a le =
-    let h : Handed u p q r = subst (λ w. Advances u p q was r (Ok w)) is a in
-    let k : Handed t p q r = subst (λ l. Handed l p q r) e h in
-    (seen_more size t s p n b q r g k (subst (λ l. q ≤ length l) e le), k.place)

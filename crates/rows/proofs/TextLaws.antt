@@ -1,6 +1,7 @@
 -- Texts of rows: lines one behind the other, and the damage of a text.
 use Rattle.std.proofs.Common.{◌≡◌, ℕ, ◌+◌, ◌-◌, ◌<◌, List, [], ◌∷◌, ◌++◌, map, length, take, decimal, sym, refl, ap, ◌∙◌, subst, append_assoc, append-nil, arith, length-append}
 use Rattle.std.specs.List.{flat_map, AllByRecursion}
+use Rattle.std.proofs.lemmas.Grind.{flat_map-append}
 use Rattle.rows.specs.Rows.{Row, Valid}
 use Rattle.rows.specs.Lines.{letter, tick, line, TextOf, WellFormed, Longest}
 use Rattle.rows.specs.Grammar.{Lang, Many, DamageAt}
@@ -100,12 +101,8 @@ every_append : (xs ys : List Row) → AllByRecursion Valid xs → AllByRecursion
 every_append [] ys a b = b
 every_append (x ∷ xs) ys a b = (a.0, every_append xs ys a.1 b)
 
-joined_append : (xs ys : List Row) → flat_map line (xs ++ ys) ≡ flat_map line xs ++ flat_map line ys
-joined_append [] ys = refl
-joined_append (x ∷ xs) ys = ap (λ l. line x ++ l) (joined_append xs ys) ∙ sym (append_assoc (line x) (flat_map line xs) (flat_map line ys))
-
 pub text_append : (xs ys : List Row) (s t : List ℕ) → TextOf xs s → TextOf ys t → TextOf (xs ++ ys) (s ++ t)
-text_append xs ys s t a b = record { valid = every_append xs ys a.valid b.valid; text = (λ i. a.text i ++ b.text i) ∙ sym (joined_append xs ys) }
+text_append xs ys s t a b = record { valid = every_append xs ys a.valid b.valid; text = (λ i. a.text i ++ b.text i) ∙ sym (flat_map-append line xs ys) }
 
 pub text_one : (r : Row) → Valid r → TextOf (r ∷ []) (line r)
 text_one r v = record { valid = (v, tt); text = sym (append-nil (line r)) }

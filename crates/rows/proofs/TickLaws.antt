@@ -1,15 +1,14 @@
 -- The tick field: a lone minus, or a signed number.
-use Rattle.std.proofs.Common.{◌≡◌, ℕ, suc, ◌+◌, ◌-◌, ◌^◌, ◌<◌, ◌≤◌, List, [], ◌∷◌, ◌++◌, length, get_or, take, drop, ℤ, pos, negsuc, Some, None, decimal, Option, sym, refl, ap, ◌∙◌, subst, ⊎_elim, append-nil, arith, length-append, length-drop}
+use Rattle.std.proofs.Common.{◌≡◌, ℕ, suc, ◌+◌, ◌-◌, ◌^◌, ◌<◌, ◌≤◌, List, [], ◌∷◌, ◌++◌, length, get_or, take, drop, ℤ, pos, negsuc, Some, None, decimal, Option, sym, refl, ap, ◌∙◌, subst, append-nil, arith, length-append, length-drop}
 use lib.Signed.{mag}
 use Rattle.std.specs.Fmt.{signed_decimal}
 use Rattle.std.proofs.lemmas.Fmt.{decimal_nonempty, signed_decimal_injective}
-use Rattle.std.proofs.lemmas.List.{get_or_append_left, get_or_past, take_more, drop-drop}
+use Rattle.std.proofs.lemmas.List.{get_or_append_left, take_more}
 use Rattle.std.proofs.lemmas.Bool.{ltb-true, lt-ltb}
-use Rattle.std.proofs.str.Laws.{order}
 use Rattle.rows.specs.Lines.{tick}
-use Rattle.rows.specs.Grammar.{Lang, Damaged, Then, FieldAt, DamageAt}
+use Rattle.rows.specs.Grammar.{Lang, Damaged, Then, StuckAt}
 use Rattle.rows.specs.Fields.{Decimal, TickField}
-use Rattle.rows.proofs.Lists.{Lacks, closed, here, take_first, two_bytes}
+use Rattle.rows.proofs.Lists.{Lacks, closed}
 use Rattle.rows.proofs.Damages.{choice}
 use Rattle.rows.proofs.Chains.{Apart, in_second}
 use Rattle.rows.proofs.DecimalLaws.{digit_of, lacks_tab}
@@ -46,7 +45,7 @@ minus_tick (Some (pos n)) w f e = let small = ltb-true n _ f.range in absurd (om
 minus_tick (Some (negsuc n)) w f e =
     ((tt, Some (suc n)), record { fore = 45 ∷ []; back = decimal (suc n) ++ (9 ∷ []); first = refl; second = record { above = omega arith; below = omega (arith, ltb-true n _ f.range); written = refl }; whole = f.written })
 
-negative_field : (n : ℕ) (w x : List ℕ) → w ≡ 45 ∷ x → Minus n x → TickField (Some (negsuc (n - 1))) w
+pub negative_field : (n : ℕ) (w x : List ℕ) → w ≡ 45 ∷ x → Minus n x → TickField (Some (negsuc (n - 1))) w
 negative_field n w x e f =
     let least = f.above in
     let s : n ≡ suc (n - 1) = omega arith in
@@ -68,13 +67,13 @@ behind_some None f = omega (arith, ap length f)
 behind_some (Some n) f = omega (arith, simp length-append at (ap length f.written))
 
 -- damage of a number that has no minus
-plain_damage : (t : List ℕ) (n : ℕ) → (get_or t 0 0 ≡ 45 → ⊥) → Damaged (Lang Plain) t n → Damaged (Lang TickField) t n
+pub plain_damage : (t : List ℕ) (n : ℕ) → (get_or t 0 0 ≡ 45 → ⊥) → Damaged (Lang Plain) t n → Damaged (Lang TickField) t n
 plain_damage t n bar d =
     choice t n (λ w m e. signed_tick m.0 w m.1 (λ f. bar (sym e ∙ f))) (λ m. not_empty m.0 m.1)
     (λ w l. (Some (pos l.0), record { range = lt-ltb l.0 _ (omega (arith, l.1.below)); written = l.1.written })) d
 
 -- damage behind a minus
-minus_damage : (t : List ℕ) (m : ℕ) → 0 < length t → get_or t 0 0 ≡ 45 → (get_or (drop 1 t) 0 0 ≡ 9 → ⊥) → Damaged (Lang Minus) (drop 1 t) m → Damaged (Lang TickField) t (1 + m)
+pub minus_damage : (t : List ℕ) (m : ℕ) → 0 < length t → get_or t 0 0 ≡ 45 → (get_or (drop 1 t) 0 0 ≡ 9 → ⊥) → Damaged (Lang Minus) (drop 1 t) m → Damaged (Lang TickField) t (1 + m)
 minus_damage t m some is bar d =
     let b : Damaged (Lang Behind) (drop 1 t) m = choice (drop 1 t) m (λ w k e. behind_only (drop 1 t) w bar k.0 k.1 e) (λ k. behind_some k.0 k.1) (λ w l. (Some l.0, l.1)) d in
     let one : take 1 t ≡ 45 ∷ [] = take_more t 0 0 some ∙ ap (λ c. c ∷ []) is in
@@ -83,41 +82,14 @@ minus_damage t m some is bar d =
     (λ w l. tick_minus l.0.1 w l.1.fore l.1.back l.1.first l.1.second l.1.whole)
     (in_second Sign (λ _. Behind) apart tt t 1 m (omega arith) one b)
 
--- the same by places of a text
-module _ (t : List ℕ) (i : ℕ) (within : i ≤ length t) where
-  pub plain_bad : (p : ℕ) → (i < length t → get_or t i 0 ≡ 45 → ⊥) → DamageAt (Lang Plain) t i p → DamageAt (Lang TickField) t i p
-  plain_bad p bar d =
-      record {
-        after = d.after;
-        within = d.within;
-        damage = plain_damage (drop i t) (p - i) (λ e. ⊎_elim (λ lt. bar lt (sym (here t i) ∙ e)) (λ le. omega (arith, here t i, e, get_or_past t i 0 le)) (order i (length t))) d.damage;
-      }
+-- the same by what is left of the text
+pub plain_stuck : (t left : List ℕ) → (get_or t 0 0 ≡ 45 → ⊥) → StuckAt (Lang Plain) t left → StuckAt (Lang TickField) t left
+plain_stuck t left bar d = record { within = d.within; damage = plain_damage t _ bar d.damage }
 
-  pub plain_good : (n e : ℕ) → FieldAt Plain t i n e → FieldAt TickField t i (Some (pos n)) e
-  plain_good n e f = record { after = f.after; within = f.within; field = record { range = lt-ltb n _ (omega (arith, f.field.below)); written = f.field.written } }
-
-  module _ (some : i < length t) (is : get_or t i 0 ≡ 45) where
-    pub minus_good : (n e : ℕ) → FieldAt Minus t (i + 1) n e → FieldAt TickField t i (Some (negsuc (n - 1))) e
-    minus_good n e f =
-        let after = f.after in
-        record { after = omega arith; within = f.within; field = negative_field n _ _ (take_first t i e 45 some (omega arith) is) f.field }
-
-    pub minus_bad : (p : ℕ) → (i + 1 < length t → get_or t (i + 1) 0 ≡ 9 → ⊥) → DamageAt (Lang Minus) t (i + 1) p → DamageAt (Lang TickField) t i p
-    minus_bad p bar d =
-        let after = d.after in
-        let s : 1 + (p - (i + 1)) ≡ p - i = omega arith in
-        let e : drop (i + 1) t ≡ drop 1 (drop i t) = sym (drop-drop 1 i t) in
-        let second : get_or (drop 1 (drop i t)) 0 0 ≡ get_or t (i + 1) 0 = ap (λ l. get_or l 0 0) (sym e) ∙ here t (i + 1) in
-        let R : List ℕ → Type 0 = λ l. Damaged (Lang Minus) l (p - (i + 1)) in
-        record {
-          after = omega arith;
-          within = d.within;
-          damage = subst (Damaged (Lang TickField) (drop i t)) s (minus_damage (drop i t) (p - (i + 1)) (omega (arith, length-drop i t)) (here t i ∙ is)
-              (λ f. ⊎_elim (λ lt. bar lt (sym second ∙ f)) (λ le. omega (arith, second, f, get_or_past t (i + 1) 0 le)) (order (i + 1) (length t))) (subst R e d.damage));
-        }
-
-    pub minus_none : i + 1 < length t → get_or t (i + 1) 0 ≡ 9 → FieldAt TickField t i None (i + 2)
-    minus_none lt nine = record { after = omega arith; within = omega arith; field = record { range = refl; written = two_bytes t i 45 9 lt is nine } }
+pub minus_stuck : (t left : List ℕ) → 0 < length t → get_or t 0 0 ≡ 45 → (get_or (drop 1 t) 0 0 ≡ 9 → ⊥) → StuckAt (Lang Minus) (drop 1 t) left → StuckAt (Lang TickField) t left
+minus_stuck t left some is bar d =
+    let s : 1 + (length (drop 1 t) - length left) ≡ length t - length left = omega (arith, d.within, length-drop 1 t) in
+    record { within = omega (arith, d.within, length-drop 1 t); damage = subst (Damaged (Lang TickField) t) s (minus_damage t _ some is bar d.damage) }
 
 tick_lacks : (c : Option ℤ) (w : List ℕ) → TickField c w → Lacks 9 (tick c)
 tick_lacks None w f = ((λ e. omega (arith, e)), tt)

@@ -1,10 +1,10 @@
 -- The six fields of a line, each with the byte that ends it.
-use Rattle.std.specs.Prelude.{◌≡◌, ℕ, ◌+◌, ◌-◌, ◌*◌, ◌^◌, ◌<◌, ◌≤◌, Bool, true, ◌⊎◌, List, [], ◌∷◌, ◌++◌, length, take, ℤ, Ok, Err, decimal, Option, Result, ◌≢◌}
+use Rattle.std.specs.Prelude.{◌≡◌, ℕ, ◌+◌, ◌-◌, ◌*◌, ◌^◌, ◌<◌, ◌≤◌, Bool, true, ◌⊎◌, List, [], ◌∷◌, ◌++◌, ℤ, Ok, Err, decimal, Option, Result, ◌≢◌}
 use Rattle.rows.specs.declared.types.Kind.{Kind}
 use Rattle.rows.specs.declared.types.UnknownKind.{UnknownKind}
 use Rattle.rows.specs.Rows.{Row, Hex, fits, room}
 use Rattle.rows.specs.Lines.{letter, tick}
-use Rattle.rows.specs.Grammar.{Lang, Damaged, Then}
+use Rattle.rows.specs.Grammar.{Then}
 
 -- a decimal number from low to top, and the tab after it
 pub record Decimal (low top n : ℕ) (w : List ℕ) : Type 0 where
@@ -55,16 +55,6 @@ Line = Then NumberField (λ _. FromKind)
 abbrev pub values : Row → Values
 values r = (r.seq, (r.kind, (r.created, (r.expires, (r.key, r.value)))))
 
--- the front of t is a decimal field that ends before place i
-pub record DecimalRead (low top : ℕ) (t : List ℕ) (n i : ℕ) : Type 0 where
-  pub some : 0 < i
-  pub within : i ≤ length t
-  pub field : Decimal low top n (take i t)
-
-abbrev pub ReadsDecimal : ℕ → ℕ → List ℕ → Result (ℕ × ℕ) ℕ → Type 0
-ReadsDecimal low top t (Ok x) = DecimalRead low top t x.0 x.1
-ReadsDecimal low top t (Err n) = Damaged (Lang (Decimal low top)) t n
-
 -- the digit b may follow those of n, of which there are none at first
 pub record Follows (low top n : ℕ) (first : Bool) (b : ℕ) : Type 0 where
   pub digit : 48 ≤ b
@@ -72,15 +62,6 @@ pub record Follows (low top n : ℕ) (first : Bool) (b : ℕ) : Type 0 where
   pub lead : (first ≡ true) ⊎ (0 < n)
   pub above : low ≤ n * 10 + (b - 48)
   pub below : n * 10 + (b - 48) ≤ top
-
--- the first n bytes are the digits of a field, and its end stands behind them
-pub record HexRead (most end : ℕ) (t : List ℕ) (n : ℕ) : Type 0 where
-  pub within : n < length t
-  pub field : HexField most end (take n t) (take (n + 1) t)
-
-abbrev pub ReadsHex : ℕ → ℕ → List ℕ → Result ℕ ℕ → Type 0
-ReadsHex most end t (Ok n) = HexRead most end t n
-ReadsHex most end t (Err n) = Damaged (Lang (HexField most end)) t n
 
 -- the kind that a letter stands for, or a letter that stands for none
 abbrev pub ReadsKind : ℕ → Result Kind UnknownKind → Type 0

@@ -1,5 +1,6 @@
 -- Languages of fields: a field is a relation between a value and its text.
 use Rattle.std.specs.Prelude.{◌≡◌, ℕ, ◌-◌, ◌≤◌, List, [], ◌∷◌, ◌++◌, length, take, drop, Ok, Err, Result}
+use Rattle.std.specs.Borrow.{Bor}
 use Rattle.rows.specs.Lines.{Longest}
 
 -- the texts that F has for some value
@@ -36,11 +37,26 @@ pub record DamageAt (L : List ℕ → Type 0) (t : List ℕ) (i p : ℕ) : Type 
   pub within : p ≤ length t
   pub damage : Damaged L (drop i t) (p - i)
 
--- what a reader of F answers at place i: a value, by its meaning, and the place behind it, or the place of the damage
-abbrev pub ReadAs : {V A : Type 0} → (V → A) → (A → List ℕ → Type 0) → List ℕ → ℕ → Result (V × ℕ) ℕ → Type 0
-ReadAs f F t i (Ok x) = FieldAt F t i (f x.0) x.1
-ReadAs f F t i (Err p) = DamageAt (Lang F) t i p
+-- t begins with a text of F for a, and rest is what follows it
+pub record FrontOf {A : Type 0} (F : A → List ℕ → Type 0) (t : List ℕ) (a : A) (rest : List ℕ) : Type 0 where
+  pub fore : List ℕ
+  pub field : F a fore
+  pub whole : t ≡ fore ++ rest
+
+-- t begins with no text of L, and what could be one ends where left begins
+pub record StuckAt (L : List ℕ → Type 0) (t left : List ℕ) : Type 0 where
+  pub within : length left ≤ length t
+  pub damage : Damaged L t (length t - length left)
+
+-- what a reader of F answers at the front of t: a value, by its meaning, and the text behind it, or the text from the damage on
+abbrev pub ReadAs : {V A : Type 0} → (V → A) → (A → List ℕ → Type 0) → List ℕ → Result (V × Bor (List ℕ)) (Bor (List ℕ)) → Type 0
+ReadAs f F t (Ok x) = FrontOf F t (f x.0) x.1.now
+ReadAs f F t (Err left) = StuckAt (Lang F) t left.now
 
 -- a value that means itself
 abbrev pub same : {A : Type 0} → A → A
 same a = a
+
+-- a part of a text means its bytes
+abbrev pub bytes : Bor (List ℕ) → List ℕ
+bytes part = part.now

@@ -2,7 +2,6 @@ pub mod Rows
 pub mod Lines
 pub mod Grammar
 pub mod Fields
-pub mod Spans
 pub mod Entries
 pub mod Sizes
 pub mod Reading

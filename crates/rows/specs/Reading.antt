@@ -1,19 +1,25 @@
 -- What the calls of a reader promise.
-use Rattle.std.specs.Prelude.{◌≡◌, ℕ, ◌+◌, Bool, true, false, List, [], ◌++◌, length, take, drop, None, Ok, Err, Result}
+use Rattle.std.specs.Prelude.{◌≡◌, ℕ, ◌+◌, Bool, true, false, List, [], ◌++◌, length, take, drop, None, Option, is_some, Ok, Err, Result}
 use Rattle.rows.specs.declared.types.Kind.TheVariants.{Tombstone}
 use Rattle.rows.specs.declared.types.Damage.{Damage}
 use Rattle.rows.specs.declared.reader.Reader.{Reader}
 use Rattle.rows.specs.Rows.{Row, Valid}
 use Rattle.rows.specs.Lines.{line, TextOf, DamagedText}
 use Rattle.rows.specs.Sizes.{total, weight}
-use Rattle.rows.specs.Spans.{found_row}
+use Rattle.rows.specs.Entries.{row_of}
+use Rattle.rows.specs.Fields.{Values, values}
+use Rattle.rows.specs.declared.entry.RowEntry.{RowEntry}
 
 -- the text of a reader, and the row that it stands on
 abbrev pub text_of : Reader → List ℕ
 text_of r = r.text.now
 
 abbrev pub row_under : Reader → Row
-row_under r = found_row r.text.now r.found
+row_under r = row_of r.row
+
+-- the fields of an entry's line
+abbrev pub values_of : RowEntry → Values
+values_of e = values (row_of e)
 
 -- before the first row
 abbrev pub no_row : Row
@@ -34,6 +40,11 @@ abbrev pub Advances : List ℕ → ℕ → ℕ → Row → Row → Result Bool D
 Advances t p q was is (Ok true) = Handed t p q is
 Advances t p q was is (Ok false) = (p ≡ length t) × (q ≡ p) × (is ≡ was)
 Advances t p q was is (Err d) = Reported t p d × (q ≡ p) × (is ≡ was)
+
+-- whether there was a next row
+abbrev pub went : Result (Option RowEntry) Damage → Result Bool Damage
+went (Ok next) = Ok (is_some next)
+went (Err d) = Err d
 
 -- where the line of a row stands, that row is handed out
 abbrev pub ReadsBack : List ℕ → ℕ → Row → Result Bool Damage → Type 0

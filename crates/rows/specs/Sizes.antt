@@ -22,9 +22,13 @@ total f (r ∷ rs) = f r + total f rs
 abbrev pub blocks : ℕ → ℕ → ℕ → ℕ
 blocks n s block = (s + 9 * n + (block - 1)) / block
 
+-- a table of n rows of size s, with so many bytes for each block and so many at its end
+abbrev pub encoded_size : ℕ → ℕ → ℕ → ℕ → ℕ → ℕ
+encoded_size for_block at_end n s block = cond (n == 0) 0 (s + 11 * n + for_block * blocks n s block + at_end)
+
 -- the estimates of the table that n rows of size s would make
 abbrev pub wal_size : ℕ → ℕ → ℕ → ℕ
-wal_size n s block = cond (n == 0) 0 (s + 11 * n + 14 * blocks n s block + 85)
+wal_size = encoded_size 14 85
 
 abbrev pub compacted_size : ℕ → ℕ → ℕ → ℕ
-compacted_size n s block = cond (n == 0) 0 (s + 11 * n + 24 * blocks n s block + 137)
+compacted_size = encoded_size 24 137

@@ -1,10 +1,8 @@
 //! Hexadecimal digits of a field.
-ghost use Rattle.std.specs.Prelude.{◌≡◌, ◌%◌, ◌<◌, ◌≤◌, length};
-ghost use Rattle.rows.specs.Fields.{ReadsHex};
+ghost use Rattle.std.specs.Prelude.{◌≡◌, ◌%◌, ◌<◌};
+ghost use Rattle.rows.specs.Fields.{HexField};
+ghost use Rattle.rows.specs.Grammar.{ReadAs, bytes};
 ghost use Rattle.rows.specs.Rows.{hex_digit};
-ghost use Rattle.rows.specs.Spans.{SpanAt};
-
-use crate::found::Span;
 
 /// Whether a byte is one of 0 to 9 and a to f.
 fn is_hex(b: u8) -> bool
@@ -13,38 +11,18 @@ fn is_hex(b: u8) -> bool
     matches!(b, b'0'..=b'9' | b'a'..=b'f')
 }
 
-/// Reads at most `most` digits, in pairs, up to the byte `end`. Answers how many, or the place of the damage.
-fn hex(rest: &[u8], most: usize, end: u8) -> Result<usize, usize>
+/// Reads at most `most` digits, in pairs, and the byte `end` behind them from the front of a text.
+///
+/// Answers the digits and the text behind the end, or the text from the damage on.
+pub(crate) fn read_hex(text: &[u8], most: usize, end: u8) -> Result<(&[u8], &[u8]), &[u8]>
     requires even { most % 2 ≡ 0 }
     requires mark { end < 48 }
-    ensures { ReadsHex most end rest.now result }
+    ensures { ReadAs bytes (HexField most end) text.now result }
 {
-    for (i, b) in rest.iter().enumerate() {
-        if *b == end && i % 2 == 0 {
-            return Ok(i);
-        }
-        if i == most || !is_hex(*b) {
-            return Err(i);
-        }
-    }
-    Err(rest.len())
-}
-
-/// Reads the digits of a field and the byte `end` behind them from place `at` of a text.
-pub(crate) fn hex_at(text: &[u8], at: usize, most: usize, end: u8) -> Result<(Span, usize), usize>
-    requires within { at ≤ length text.now }
-    requires even { most % 2 ≡ 0 }
-    requires mark { end < 48 }
-    ensures { SpanAt most end text.now at result }
-{
-    match hex(&text[at..], most, end) {
-        Ok(long) => Ok((
-            Span {
-                start: at,
-                end: at + long,
-            },
-            at + long + 1,
-        )),
-        Err(long) => Err(at + long),
+    let ends = text.iter().position(|b| !is_hex(*b));
+    let (digits, rest) = text.split_at(ends.unwrap_or(text.len()).min(most));
+    match rest {
+        [b, rest @ ..] if *b == end && digits.len() % 2 == 0 => Ok((digits, rest)),
+        _ => Err(rest),
     }
 }

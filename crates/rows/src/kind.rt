@@ -1,5 +1,5 @@
 //! The kind of a row and its letter.
-ghost use Rattle.std.specs.Prelude.{◌≡◌, ◌+◌, ◌%◌, ◌≤◌, length};
+ghost use Rattle.std.specs.Prelude.{◌≡◌, ◌%◌};
 ghost use Rattle.rows.specs.Fields.{KindField, ReadsKind};
 ghost use Rattle.rows.specs.Grammar.{ReadAs, same};
 ghost use Rattle.rows.specs.Lines.{letter};
@@ -34,21 +34,22 @@ impl From<Kind> for u8 {
     }
 }
 
-/// Reads a kind and the tab behind it from place `at` of a text.
-pub(crate) fn kind_at(text: &[u8], at: usize) -> Result<(Kind, usize), usize>
-    requires { at ≤ length text.now }
-    ensures { ReadAs same KindField text.now at result }
+/// Reads a kind and the tab behind it from the front of a text.
+///
+/// Answers the kind and the text behind the tab, or the text from the damage on.
+pub(crate) fn read_kind(text: &[u8]) -> Result<(Kind, &[u8]), &[u8]>
+    ensures { ReadAs same KindField text.now result }
 {
-    if at == text.len() {
-        return Err(at);
-    }
-    let Ok(kind) = Kind::try_from(text[at]) else {
-        return Err(at);
+    let [letter, rest @ ..] = text else {
+        return Err(text);
     };
-    if at + 1 == text.len() || text[at + 1] != b'\t' {
-        return Err(at + 1);
+    let Ok(kind) = Kind::try_from(*letter) else {
+        return Err(text);
+    };
+    match rest {
+        [b'\t', rest @ ..] => Ok((kind, rest)),
+        _ => Err(rest),
     }
-    Ok((kind, at + 2))
 }
 
 /// How many hexadecimal digits the value of a row of this kind may have.

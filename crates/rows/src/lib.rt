@@ -4,7 +4,6 @@
 mod block;
 mod decimal;
 mod entry;
-mod found;
 mod hex;
 mod kind;
 mod line;

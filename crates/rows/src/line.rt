@@ -1,35 +1,33 @@
 //! A line: the six fields of a row.
-ghost use Rattle.std.specs.Prelude.{◌≤◌, length};
-ghost use Rattle.rows.specs.Spans.{LineAt};
+ghost use Rattle.rows.specs.Fields.{Line};
+ghost use Rattle.rows.specs.Grammar.{ReadAs};
+ghost use Rattle.rows.specs.Reading.{values_of};
 
-use crate::decimal::decimal_at;
-use crate::found::Found;
-use crate::hex::hex_at;
-use crate::kind::{kind_at, most_digits};
-use crate::tick::tick_at;
+use crate::decimal::read_decimal;
+use crate::entry::RowEntry;
+use crate::hex::read_hex;
+use crate::kind::{most_digits, read_kind};
+use crate::tick::read_tick;
+use crate::types::ValueDeletable;
 
-/// Reads the line that begins at place `at` of a text.
+/// Reads a line from the front of a text.
 ///
-/// Answers the row and the place behind the line, or the place of the damage.
-pub(crate) fn line_at(text: &[u8], at: usize) -> Result<(Found, usize), usize>
-    requires { at ≤ length text.now }
-    ensures { LineAt text.now at result }
+/// Answers the row and the text behind the line, or the text from the damage on.
+pub(crate) fn read_line(text: &[u8]) -> Result<(RowEntry<'_>, &[u8]), &[u8]>
+    ensures { ReadAs values_of Line text.now result }
 {
-    let (seq, at) = decimal_at(text, at, 0, u64::MAX)?;
-    let (kind, at) = kind_at(text, at)?;
-    let (create_ts, at) = tick_at(text, at)?;
-    let (expire_ts, at) = tick_at(text, at)?;
-    let (key, at) = hex_at(text, at, 128, b'\t')?;
-    let (value, at) = hex_at(text, at, most_digits(kind), b'\n')?;
-    Ok((
-        Found {
-            seq,
-            kind,
-            create_ts,
-            expire_ts,
-            key,
-            value,
-        },
-        at,
-    ))
+    let (seq, rest) = read_decimal(text, 0, u64::MAX)?;
+    let (kind, rest) = read_kind(rest)?;
+    let (create_ts, rest) = read_tick(rest)?;
+    let (expire_ts, rest) = read_tick(rest)?;
+    let (key, rest) = read_hex(rest, 128, b'\t')?;
+    let (digits, rest) = read_hex(rest, most_digits(kind), b'\n')?;
+    let row = RowEntry {
+        seq,
+        create_ts,
+        expire_ts,
+        key,
+        value: ValueDeletable::new(kind, digits),
+    };
+    Ok((row, rest))
 }

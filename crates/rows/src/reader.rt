@@ -1,9 +1,7 @@
 //! A reader of the rows of a text.
-ghost use Rattle.std.specs.Prelude.{◌≡◌, ◌^◌, ◌<◌, ◌≤◌, true, length};
-ghost use Rattle.rows.specs.Rows.{Hex, fits, room};
-ghost use Rattle.rows.specs.Spans.{Within, cut};
+ghost use Rattle.std.specs.Prelude.{◌≤◌, length};
 
-use crate::found::Found;
+use crate::entry::RowEntry;
 
 mod ahead;
 mod calls;
@@ -13,13 +11,6 @@ mod calls;
 pub struct Reader<'a> {
     text: &'a [u8],
     place: usize,
-    found: Found,
+    row: RowEntry<'a>,
     ghost stands: { place ≤ length text.now },
-    ghost number: { found.seq < 2 ^ 64 },
-    ghost created: { fits found.create_ts ≡ true },
-    ghost expires: { fits found.expire_ts ≡ true },
-    ghost key_within: { Within text.now found.key },
-    ghost value_within: { Within text.now found.value },
-    ghost key_digits: { Hex 128 (cut text.now found.key) },
-    ghost value_digits: { Hex (room found.kind) (cut text.now found.value) },
 }

@@ -1,9 +1,9 @@
 //! Ticks: signed numbers of 64 bits, or none.
-ghost use Rattle.std.specs.Prelude.{◌≡◌, ◌-◌, ◌^◌, ◌<◌, ◌≤◌, length, pos, negsuc};
+ghost use Rattle.std.specs.Prelude.{◌≡◌, ◌-◌, ◌^◌, ◌<◌, ◌≤◌, pos, negsuc};
 ghost use Rattle.rows.specs.Fields.{TickField};
 ghost use Rattle.rows.specs.Grammar.{ReadAs, same};
 
-use crate::decimal::decimal_at;
+use crate::decimal::read_decimal;
 
 /// One more than the greatest tick.
 const BOUND: u64 = 0x8000_0000_0000_0000;
@@ -25,18 +25,21 @@ fn positive(n: u64) -> i64
     n as i64
 }
 
-/// Reads a tick and the tab behind it from place `at` of a text.
-pub(crate) fn tick_at(text: &[u8], at: usize) -> Result<(Option<i64>, usize), usize>
-    requires { at ≤ length text.now }
-    ensures { ReadAs same TickField text.now at result }
+/// Reads a tick and the tab behind it from the front of a text.
+///
+/// Answers the tick and the text behind the tab, or the text from the damage on.
+pub(crate) fn read_tick(text: &[u8]) -> Result<(Option<i64>, &[u8]), &[u8]>
+    ensures { ReadAs same TickField text.now result }
 {
-    if at == text.len() || text[at] != b'-' {
-        let (n, end) = decimal_at(text, at, 0, BOUND - 1)?;
-        return Ok((Some(positive(n)), end));
+    match text {
+        [b'-', b'\t', rest @ ..] => Ok((None, rest)),
+        [b'-', digits @ ..] => {
+            let (n, rest) = read_decimal(digits, 1, BOUND)?;
+            Ok((Some(negative(n)), rest))
+        }
+        _ => {
+            let (n, rest) = read_decimal(text, 0, BOUND - 1)?;
+            Ok((Some(positive(n)), rest))
+        }
     }
-    if at + 1 < text.len() && text[at + 1] == b'\t' {
-        return Ok((None, at + 2));
-    }
-    let (n, end) = decimal_at(text, at + 1, 1, BOUND)?;
-    Ok((Some(negative(n)), end))
 }

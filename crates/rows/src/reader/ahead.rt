@@ -1,12 +1,10 @@
 //! Looking ahead in a text.
-ghost use Rattle.std.specs.Prelude.{◌≡◌, ◌+◌, ◌≤◌, length};
+ghost use Rattle.std.specs.Prelude.{◌≡◌};
 ghost use Rattle.rows.specs.Reading.{LiesAhead, row_under, text_of};
-ghost use Rattle.rows.specs.Spans.{Within, spans};
 
 use super::Reader;
 use super::calls::damage_at;
-use crate::found::Found;
-use crate::line::line_at;
+use crate::line::read_line;
 use crate::types::Damage;
 
 /// Puts a place back when it goes.
@@ -22,15 +20,6 @@ impl Drop for Ahead<'_> {
         *self.place = self.start;
         let Ahead { place: _, start: _ } = self;
     }
-}
-
-/// The bytes of key and value.
-fn weight(text: &[u8], found: Found) -> usize
-    requires key { Within text.now found.key }
-    requires value { Within text.now found.value }
-    ensures { result ≡ spans found }
-{
-    (found.key.end - found.key.start) / 2 + (found.value.end - found.value.start) / 2
 }
 
 impl<'a> Reader<'a> {
@@ -50,13 +39,13 @@ impl<'a> Reader<'a> {
         let mut rows = 0;
         let mut bytes = 0;
         while *guard.place < text.len() {
-            match line_at(text, *guard.place) {
-                Ok((found, end)) => {
+            match read_line(&text[*guard.place..]) {
+                Ok((row, rest)) => {
                     rows += 1;
-                    bytes += weight(text, found);
-                    *guard.place = end;
+                    bytes += row.weight();
+                    *guard.place = text.len() - rest.len();
                 }
-                Err(place) => return Err(damage_at(text, place)),
+                Err(left) => return Err(damage_at(text, left)),
             }
         }
         Ok((rows, bytes))

@@ -1,33 +1,39 @@
-use Rattle.std.proofs.Common.{◌≡◌, ◌+◌, ◌++◌, sym, refl, ◌∙◌, subst, arith}
+use Rattle.std.proofs.Common.{◌≡◌, ◌+◌, ◌-◌, ◌++◌, length, sym, refl, subst, arith}
+use Rattle.rows.specs.Entries.{row_of}
 use Rattle.rows.specs.Sizes.{weight}
-use Rattle.rows.specs.Spans.{found_row}
+use Rattle.rows.proofs.Damages.{field_at, damage_in, left_within, from_place}
 use Rattle.rows.proofs.LineLaws.{line_some}
 use Rattle.rows.proofs.ReadLaws.{handed, reported, few_ends}
-use Rattle.rows.proofs.SeenLaws.{Seen, seen_more, seen_all, seen_end, cut_length, weight_le}
+use Rattle.rows.proofs.SeenLaws.{Seen, seen_more, seen_all, seen_end, weight_le}
 use Rattle.rows.proofs.reader.Reader.look_ahead.Goals as goal
 
 pub loop-guard-smaller : goal.loop-guard-smaller
-loop-guard-smaller c = let f = c.in-Ok.ensures in omega (arith, line_some _ _ _ _ f.0, f.0.within)
+loop-guard-smaller c =
+    let f = (field_at c.args.self.now.text.now c.loop-guard.guard.place.now _ (from_place _ _ (omega arith)) _ _ _ c.in-Ok.ensures).0 in
+    omega (arith, line_some _ _ _ _ f, f.within)
 
 pub loop-guard-preserved : goal.loop-guard-preserved
 loop-guard-preserved c =
-    let f = c.in-Ok.ensures in
     let t = c.args.self.now.text.now in
-    let h = handed t c.loop-guard.guard.place.now c.in-Ok.end (found_row t c.in-Ok.found) f.0 in
-    let w : weight (found_row t c.in-Ok.found) ≡ c.weight-bytes.result = cut_length t c.in-Ok.found f.1 f.2 ∙ sym c.weight-bytes.ensures in (
-      subst (λ n. Seen weight t c.args.self.now.place c.in-Ok.end (c.loop-guard.rows + 1) (c.loop-guard.bytes + n)) w
-          (seen_more weight t c.args.self.now.place c.loop-guard.guard.place.now c.loop-guard.rows c.loop-guard.bytes c.in-Ok.end (found_row t c.in-Ok.found) c.loop-guard.invariant.0 h f.0.within),
-      omega (arith, w, weight_le (found_row t c.in-Ok.found), h.place, c.loop-guard.invariant.1),
+    let f = (field_at t c.loop-guard.guard.place.now _ (from_place _ _ (omega arith)) _ _ _ c.in-Ok.ensures).0 in
+    let r = row_of c.in-Ok.row in
+    let q = length t - length c.in-Ok.rest.now in
+    let h = handed t c.loop-guard.guard.place.now _ r f in
+    let w : weight (row_of c.in-Ok.row) ≡ c.weight-bytes.result = sym c.weight-bytes.ensures in (
+      subst (λ n. Seen weight t c.args.self.now.place q (c.loop-guard.rows + 1) (c.loop-guard.bytes + n)) w
+          (seen_more weight t c.args.self.now.place c.loop-guard.guard.place.now c.loop-guard.rows c.loop-guard.bytes _ r c.loop-guard.invariant.0 h f.within),
+      omega (arith, w, weight_le r, h.place, c.loop-guard.invariant.1),
     )
 
 pub damage_at-requires : goal.damage_at-requires
 damage_at-requires c =
-    let d = c.in-Err.ensures in
-    record { within = d.within; fits = omega (arith, few_ends _ _ _ (omega arith) d) }
+    let from = from_place c.args.self.now.text.now c.loop-guard.guard.place.now (omega arith) in
+    let d = damage_in _ _ _ from _ _ c.in-Err.ensures in
+    record { within = left_within _ _ _ from _ _ c.in-Err.ensures; fits = omega (arith, few_ends _ _ _ (omega arith) d) }
 
 pub returns-in-Err : goal.returns-in-Err
 returns-in-Err c =
-    let d = c.in-Err.ensures in
+    let d = damage_in c.args.self.now.text.now c.loop-guard.guard.place.now _ (from_place _ _ (omega arith)) _ _ c.in-Err.ensures in
     let told = reported _ _ _ c.damage_at.result (omega arith) d c.damage_at.ensures.place c.damage_at.ensures.line in
     record {
       text = refl;
