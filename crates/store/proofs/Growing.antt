@@ -1,18 +1,12 @@
 -- The files in a text that grows at its end.
-use Rattle.std.proofs.Common.{◌≡◌, ℕ, ◌+◌, ◌≤◌, true, false, cond, eqb, List, ◌++◌, length, take, drop, Some, None, Option, sym, refl, ap, ◌∙◌, subst, ⊎_elim, arith, length-drop, length-take}
+use Rattle.std.proofs.Common.{◌≡◌, ℕ, ◌+◌, ◌≤◌, true, false, cond, eqb, List, ◌++◌, length, take, drop, Some, None, Option, sym, refl, ap, ◌∙◌, ⊎_elim, arith, length-drop}
 use mathlib.Core.Path.{fun_ext}
 use Rattle.std.specs.Option.{option_map}
 use Rattle.std.proofs.lemmas.List.{drop-append-le, take-append-le, drop_at, take_all}
-use Rattle.std.proofs.lemmas.Bool.{cases_Bool, cond-true, cond-false}
+use Rattle.std.proofs.lemmas.Bool.{cases_Bool}
 use Rattle.store.specs.declared.extent.Extent.{Extent}
-use Rattle.store.specs.Meaning.{with_file, WithinLimit}
+use Rattle.store.specs.Meaning.{with_file}
 use Rattle.store.specs.Index.{extent_of, bytes_in, files_in, Inside}
-
-pub files_within_limit : (es : List Extent) (text : List ℕ) (n : ℕ) → Inside es n → (id : ℕ) → WithinLimit (files_in es text id)
-files_within_limit es text n w id =
-    let Q : Option Extent → Type 0 = λ o. extent_of es id ≡ o → WithinLimit (option_map (bytes_in text) o) in
-    let each : (o : Option Extent) → Q o = λ o. elim o as Q [ None ↦ λ _. tt | Some e ↦ λ h. (let k : e.len ≤ 16384 = (w id e h).1 in simp length-take (omega arith)) ] in
-    each (extent_of es id) refl
 
 -- an extent inside a text has the same bytes after more were appended
 old_bytes : (text more : List ℕ) (e : Extent) → e.start + e.len ≤ length text → bytes_in (text ++ more) e ≡ bytes_in text e
@@ -26,29 +20,17 @@ new_bytes : (text more : List ℕ) (e : Extent) → e.start ≡ length text → 
 new_bytes text more e p q =
     ap (λ n. take n (drop e.start (text ++ more))) q ∙ ap (take (length more)) (drop_at text more e.start (sym p)) ∙ take_all (length more) more (omega arith)
 
-module _ (es es' : List Extent) (e : Extent) (finds : (k : ℕ) → extent_of es' k ≡ cond (eqb k e.id) (Some e) (extent_of es k)) where
-  pub inside_grown : (m n : ℕ) → Inside es m → m ≤ n → e.start + e.len ≤ n → e.len ≤ 16384 → Inside es' n
-  inside_grown m n w l h s k x f =
-      ⊎_elim
-      (λ (a : eqb k e.id ≡ true).
-      let g : e ≡ x = let q = sym (finds k ∙ cond-true _ (Some e) (extent_of es k) a) ∙ f in cc in
-      let both : (e.start + e.len ≤ n) × (e.len ≤ 16384) = (h, s) in
-      subst (λ (y : Extent). (y.start + y.len ≤ n) × (y.len ≤ 16384)) g both)
-      (λ (a : eqb k e.id ≡ false).
-      let old = w k x (sym (finds k ∙ cond-false _ (Some e) (extent_of es k) a) ∙ f) in
-      (omega arith, old.1))
+module _ (es es' : List Extent) (e : Extent) (finds : (k : ℕ) → extent_of es' k ≡ cond (eqb k e.id) (Some e) (extent_of es k))
+    (text text' more : List ℕ) (n : ℕ) (w : Inside es n) (all : n ≡ length text) (from : e.start ≡ n) (size : e.len ≡ length more) (grown : text' ≡ text ++ more) where
+  file_grown : (k : ℕ) → files_in es' text' k ≡ with_file (files_in es text) e.id more k
+  file_grown k =
+      let Q : Option Extent → Type 0 = λ o. extent_of es k ≡ o → option_map (bytes_in (text ++ more)) o ≡ option_map (bytes_in text) o in
+      let old : (o : Option Extent) → Q o = λ o. elim o as Q [ None ↦ λ _. refl | Some x ↦ λ h. (let b = w k x h in ap Some (old_bytes text more x (omega arith))) ] in
+      ap (λ t. option_map (bytes_in t) (extent_of es' k)) grown ∙ ap (option_map (bytes_in (text ++ more))) (finds k)
+      ∙ ⊎_elim
+      (λ (a : eqb k e.id ≡ true). rw a (ap Some (new_bytes text more e (from ∙ all) size)))
+      (λ (a : eqb k e.id ≡ false). rw a (old (extent_of es k) refl))
       (cases_Bool (eqb k e.id))
 
-  module _ (text text' more : List ℕ) (n : ℕ) (w : Inside es n) (all : n ≡ length text) (from : e.start ≡ n) (size : e.len ≡ length more) (grown : text' ≡ text ++ more) where
-    file_grown : (k : ℕ) → files_in es' text' k ≡ with_file (files_in es text) e.id more k
-    file_grown k =
-        let Q : Option Extent → Type 0 = λ o. extent_of es k ≡ o → option_map (bytes_in (text ++ more)) o ≡ option_map (bytes_in text) o in
-        let old : (o : Option Extent) → Q o = λ o. elim o as Q [ None ↦ λ _. refl | Some x ↦ λ h. (let b = w k x h in ap Some (old_bytes text more x (omega arith))) ] in
-        ap (λ t. option_map (bytes_in t) (extent_of es' k)) grown ∙ ap (option_map (bytes_in (text ++ more))) (finds k)
-        ∙ ⊎_elim
-        (λ (a : eqb k e.id ≡ true). rw a (ap Some (new_bytes text more e (from ∙ all) size)))
-        (λ (a : eqb k e.id ≡ false). rw a (old (extent_of es k) refl))
-        (cases_Bool (eqb k e.id))
-
-    pub files_grown : files_in es' text' ≡ with_file (files_in es text) e.id more
-    files_grown = fun_ext file_grown
+  pub files_grown : files_in es' text' ≡ with_file (files_in es text) e.id more
+  files_grown = fun_ext file_grown
