@@ -8,6 +8,6 @@ held_by b = record {
   kind = b.kind;
   created = b.create_ts;
   expires = b.expire_ts;
-  key = b.key.items;
-  value = b.value.items;
+  key = b.key;
+  value = b.value;
 }

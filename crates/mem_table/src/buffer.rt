@@ -1,5 +1,5 @@
 //! A row with storage of its own.
-use arrayvec::ArrayVec;
+use crate::digits::Digits;
 use rows::Kind;
 use std::marker::Model;
 
@@ -12,8 +12,8 @@ pub struct RowBuf {
     kind: Kind,
     create_ts: Option<i64>,
     expire_ts: Option<i64>,
-    key: ArrayVec<u8, 128>,
-    value: ArrayVec<u8, 2048>,
+    key: Digits<128>,
+    value: Digits<2048>,
 }
 
 impl Model for RowBuf {

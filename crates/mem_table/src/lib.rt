@@ -3,6 +3,7 @@
 
 mod buffer;
 mod calls;
+mod digits;
 mod fault;
 mod laws;
 mod lent;

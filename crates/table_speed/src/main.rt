@@ -4,41 +4,18 @@
 use mem_table::{RowBuf, Table};
 use rows::Reader;
 use std::time::Instant;
-use tables::{ArrivalLog, SortedTable};
+use tables::{ArrivalLog, MOST_BYTES, MOST_PUTS, SortedTable};
 
-/// The order in which keys come.
-#[derive(Clone, Copy)]
-enum Keys {
-    Ascending,
-    Descending,
-    Scattered,
-    Replaced,
-}
+/// How many rows a load has.
+const ROWS: u32 = 65_536;
 
-/// The key of a row of a load.
-fn key_of(keys: Keys, n: u32) -> u32 {
-    match keys {
-        Keys::Ascending => n,
-        Keys::Descending => u32::MAX - n,
-        Keys::Scattered => n.wrapping_mul(0x9e37_79b1),
-        Keys::Replaced => 7,
-    }
-}
-
-/// The number of a row of a load.
-fn number_of(keys: Keys, n: u32) -> u32 {
-    match keys {
-        Keys::Ascending | Keys::Descending | Keys::Scattered => n,
-        Keys::Replaced => n % 16,
-    }
-}
-
-/// A text of that many rows.
-fn load(rt: &HostRuntime, keys: Keys, count: u32) -> anyhow::Result<String> {
+/// A text of rows, each with the number and the key that `row` gives it.
+fn load<F: Fn(u32) -> (u32, u32)>(rt: &HostRuntime, row: F) -> anyhow::Result<String>
+    requires { F.IsAlwaysCallable row }
+{
     let mut text = String::new(rt.alloc());
-    for n in 0..count {
-        let number = number_of(keys, n);
-        let key = key_of(keys, n);
+    for n in 0..ROWS {
+        let (number, key) = row(n);
         let line = format!(in rt.alloc(); "{number}\tV\t1\t-\t{key:08x}\t00ff00ff\n")?;
         text.push_str(line.as_str())?;
     }
@@ -49,10 +26,7 @@ fn load(rt: &HostRuntime, keys: Keys, count: u32) -> anyhow::Result<String> {
 fn fill<T: Table>(table: &mut T, text: &[u8]) -> u32 {
     let mut reader = Reader::new(text);
     let mut taken = 0u32;
-    for _ in 0..65_536u32 {
-        let Ok(true) = reader.advance() else {
-            break;
-        };
+    while let Ok(true) = reader.advance() {
         if table.put(reader.row()).is_ok() {
             taken = taken.wrapping_add(1);
         }
@@ -64,17 +38,17 @@ fn fill<T: Table>(table: &mut T, text: &[u8]) -> u32 {
 fn read<T: Table>(table: &T) -> (usize, u64) {
     let mut row = RowBuf::new();
     let mut sum = 0u64;
-    for i in 0..65_537usize {
-        if !table.nth(i, &mut row) {
-            return (i, sum);
-        }
-        let entry = row.lend();
-        sum = sum.wrapping_mul(31).wrapping_add(entry.seq);
-        for b in entry.key {
-            sum = sum.wrapping_add(u64::from(*b));
+    let (count, _) = table.metadata();
+    for i in 0..count {
+        if table.nth(i, &mut row) {
+            let entry = row.lend();
+            sum = sum.wrapping_mul(31).wrapping_add(entry.seq);
+            for b in entry.key {
+                sum = sum.wrapping_add(u64::from(*b));
+            }
         }
     }
-    (0, sum)
+    (count, sum)
 }
 
 /// Fills and reads a table, and prints how long each took.
@@ -97,17 +71,19 @@ fn run<T: Table>(
 }
 
 /// Both tables on one load.
-fn both(rt: &HostRuntime, name: &str, keys: Keys) -> anyhow::Result<()> {
-    let text = load(rt, keys, 65_536)?;
-    let mut table = SortedTable::new(rt.alloc(), 65_536, 16_777_216)?;
+fn both<F: Fn(u32) -> (u32, u32)>(rt: &HostRuntime, name: &str, row: F) -> anyhow::Result<()>
+    requires { F.IsAlwaysCallable row }
+{
+    let text = load(rt, row)?;
+    let mut table = SortedTable::new(rt.alloc(), MOST_PUTS, MOST_BYTES)?;
     run(rt, "sorted", name, &mut table, text.as_bytes())?;
-    let mut table = ArrivalLog::new(rt.alloc(), 65_536, 16_777_216)?;
+    let mut table = ArrivalLog::new(rt.alloc(), MOST_PUTS, MOST_BYTES)?;
     run(rt, "log", name, &mut table, text.as_bytes())
 }
 
 fn main(rt: HostRuntime) -> anyhow::Result<()> {
-    both(&rt, "ascending", Keys::Ascending)?;
-    both(&rt, "descending", Keys::Descending)?;
-    both(&rt, "scattered", Keys::Scattered)?;
-    both(&rt, "replaced", Keys::Replaced)
+    both(&rt, "ascending", |n| (n, n))?;
+    both(&rt, "descending", |n| (n, u32::MAX - n))?;
+    both(&rt, "scattered", |n| (n, n.wrapping_mul(0x9e37_79b1)))?;
+    both(&rt, "replaced", |n| (n % 16, 7))
 }

@@ -16,7 +16,7 @@ use Rattle.tables.specs.Shelves.{holds, order_of, rows_of}
 use Rattle.tables.proofs.Placing.{After, after_insert, after_supersede, after_overwrite}
 use Rattle.mem_table.proofs.Room.{has_room}
 use Rattle.tables.proofs.Texts.{digits_twice, row_kept}
-use Rattle.tables.proofs.Members.{slots_same}
+use Rattle.tables.proofs.Members.{map_same}
 use Rattle.std.proofs.lemmas.List.{map-append}
 
 -- the parts of a shelf with row r put on shelf s, and what they hold
@@ -36,7 +36,7 @@ pub comes_last : (s : Shelf) (e : RowEntry) (text : List ℕ) → text ≡ vec_i
     → (slots : List Slot) → slots ≡ vec_items s.slots ++ slot ∷ [] → map (row_at text) slots ≡ rows_of s ++ row_of e ∷ []
 comes_last s e text grown slot is slots pushed =
     let same : map (row_at text) (vec_items s.slots) ≡ rows_of s =
-    slots_same (row_at text) (row_at (vec_items s.text)) (vec_items s.slots)
+    map_same no_slot (row_at text) (row_at (vec_items s.text)) (vec_items s.slots)
     (λ i l. ap (λ t. row_at t (get_or (vec_items s.slots) i no_slot)) grown ∙ row_kept (vec_items s.text) ((row_of e).key ++ (row_of e).value) (get_or (vec_items s.slots) i no_slot) (s.kept.sound i l).placed) in
     ap (map (row_at text)) pushed ∙ map-append (row_at text) (vec_items s.slots) (slot ∷ []) ∙ ap (λ xs. xs ++ row_at text slot ∷ []) same ∙ ap (λ r. rows_of s ++ r ∷ []) is
 

@@ -9,11 +9,11 @@ use Rattle.tables.specs.declared.slot.Slot.{Slot}
 use Rattle.tables.specs.Slots.{no_slot, Lies, Each, Inside}
 
 -- functions that agree on a list
-pub map_same : (f g : ℕ → Row) (ks : List ℕ) → ((i : ℕ) → i < length ks → f (get_or ks i 0) ≡ g (get_or ks i 0)) → map f ks ≡ map g ks
-map_same f g [] h = refl
-map_same f g (k ∷ ks) h =
+pub map_same : {A : Type 0} (d : A) (f g : A → Row) (xs : List A) → ((i : ℕ) → i < length xs → f (get_or xs i d) ≡ g (get_or xs i d)) → map f xs ≡ map g xs
+map_same d f g [] h = refl
+map_same d f g (x ∷ xs) h =
     let a = h 0 (omega arith) in
-    let b = map_same f g ks (λ i l. h (suc i) (omega arith)) in
+    let b = map_same d f g xs (λ i l. h (suc i) (omega arith)) in
     (cc)
 
 pub map_inserted : (f : ℕ → Row) (ks : List ℕ) (i n : ℕ) → map f (insert ks i n) ≡ insert (map f ks) i (f n)
@@ -71,11 +71,3 @@ lies_more n m s h l = record { placed = omega (arith, l.placed); marked = l.mark
 -- a number came in where there was room for it
 pub came_in : (ks ks' : List ℕ) (i n m : ℕ) (ok : Bool) → ks' ≡ cond ok (insert ks i n) ks → ok ≡ true → n ≡ m → ks' ≡ insert ks i m
 came_in ks ks' i n m ok e t f = e ∙ cond-true ok (insert ks i n) ks t ∙ ap (insert ks i) f
-
--- functions that agree on slots
-pub slots_same : (f g : Slot → Row) (ss : List Slot) → Each (λ s. f s ≡ g s) ss → map f ss ≡ map g ss
-slots_same f g [] h = refl
-slots_same f g (s ∷ ss) h =
-    let a = h 0 (omega arith) in
-    let b = slots_same f g ss (λ i l. h (suc i) (omega arith)) in
-    (cc)

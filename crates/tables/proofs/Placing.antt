@@ -70,7 +70,7 @@ module _ (text : List ℕ) (slots : List Slot) (ranks : List ℕ) (puts bytes su
 
   pushed_same : standing text' pushed ranks ≡ rs
   pushed_same =
-      map_same (λ j. row_at text' (get_or pushed j no_slot)) (λ j. row_at text (get_or slots j no_slot)) ranks
+      map_same 0 (λ j. row_at text' (get_or pushed j no_slot)) (λ j. row_at text (get_or slots j no_slot)) ranks
       (λ i l. ap (row_at text') (get_or_append_left slots (slot ∷ []) no_slot (get_or ranks i 0) (k.inside i l)) ∙ stays i l)
 
   newest : row_at text' (get_or pushed (length slots) no_slot) ≡ row_of e

@@ -20,6 +20,6 @@ abbrev pub shelf_means : Shelf → Meaning
 shelf_means s = record { held = holds s; order = order_of s }
 
 -- a row that is taken comes behind all that came before, and a refused one is not kept
-abbrev pub Logged : Shelf → Shelf → Row → Result (Unit {0}) TableFault → Type 0
-Logged before after row (Ok u) = rows_of after ≡ rows_of before ++ row ∷ []
-Logged before after row (Err f) = rows_of after ≡ rows_of before
+abbrev pub ComesLast : Shelf → Shelf → Row → Result (Unit {0}) TableFault → Type 0
+ComesLast before after row (Ok u) = rows_of after ≡ rows_of before ++ row ∷ []
+ComesLast before after row (Err f) = rows_of after ≡ rows_of before

@@ -1,4 +1,5 @@
 //! The digits of rows, one row behind another in a text.
+// Kept as functions over the shelf's text: what holds of the text holds of the slots with it, so a type of its own would repeat that.
 ghost use Rattle.std.specs.Prelude.{◌≡◌, ◌+◌, ◌*◌, ◌≤◌, ◌++◌, length, vec_len, vec_capacity};
 ghost use Rattle.rows.specs.Entries.{row_of};
 ghost use Rattle.rows.specs.Sizes.{weight as weight_of};

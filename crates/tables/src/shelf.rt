@@ -11,7 +11,8 @@ mod search;
 pub use answers::{MOST_BYTES, MOST_PUTS};
 
 /// Rows by slots into one text of digits. `ranks` has the numbers of the slots whose rows stand, in the order of the rows.
-// A call of a table wants no memory, so text, slots and ranks are reserved when it is made, and rows name their digits and slots by numbers.
+// Kept as an arena of three lists: a call of a table wants no memory, so all of it is reserved when the table is made.
+// Kept without a Model: what a table means has a function among its parts, and the value of a Model cannot hold one.
 #[derive(Drop)]
 pub(crate) struct Shelf {
     text: Vec<u8>,

@@ -4,7 +4,7 @@ ghost use Rattle.std.specs.Bool.{OnTrue};
 ghost use Rattle.rows.specs.Entries.{row_of};
 ghost use Rattle.mem_table.specs.Calls.{Put};
 ghost use Rattle.mem_table.specs.Meaning.{empty};
-ghost use Rattle.tables.specs.Tables.{Logs, arrivals, table_means};
+ghost use Rattle.tables.specs.Tables.{Logged, arrivals, table_means};
 
 use super::shelf::Shelf;
 use mem_table::{RowBuf, Table, TableFault};
@@ -41,7 +41,7 @@ impl<const LOG: bool> Table for RowTable<LOG> {
 
     fn put(&mut self, row: RowEntry<'_>) -> Result<(), TableFault>
         ensures answers { Put (table_means self.old) (table_means self.new) (row_of row.entry) result }
-        ensures log { OnTrue LOG (Logs self.old self.new (row_of row.entry) result) }
+        ensures log { OnTrue LOG (Logged self.old self.new (row_of row.entry) result) }
     {
         self.shelf.put(row, LOG)
     }

@@ -4,7 +4,7 @@ ghost use Rattle.rows.specs.Entries.{row_of};
 ghost use Rattle.mem_table.specs.Order.{no_row};
 
 use super::RowBuf;
-use arrayvec::ArrayVec;
+use crate::digits::Digits;
 use rows::{Kind, RowEntry, ValueDeletable};
 
 impl RowBuf {
@@ -17,8 +17,8 @@ impl RowBuf {
             kind: Kind::Value,
             create_ts: None,
             expire_ts: None,
-            key: ArrayVec::new(),
-            value: ArrayVec::new(),
+            key: Digits::new(),
+            value: Digits::new(),
         }
     }
 
@@ -43,9 +43,7 @@ impl RowBuf {
         self.kind = row.value.kind();
         self.create_ts = row.create_ts;
         self.expire_ts = row.expire_ts;
-        self.key.clear();
-        let _ = self.key.try_extend_from_slice(row.key);
-        self.value.clear();
-        let _ = self.value.try_extend_from_slice(row.value.digits());
+        self.key.set(row.key);
+        self.value.set(row.value.digits());
     }
 }

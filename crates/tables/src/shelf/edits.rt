@@ -3,7 +3,7 @@ ghost use Rattle.std.specs.Prelude.{◌≡◌};
 ghost use Rattle.std.specs.Bool.{OnTrue};
 ghost use Rattle.rows.specs.Entries.{row_of};
 ghost use Rattle.mem_table.specs.Calls.{lacks as lacks_room, Put};
-ghost use Rattle.tables.specs.Shelves.{Logged, holds, shelf_means};
+ghost use Rattle.tables.specs.Shelves.{ComesLast, holds, shelf_means};
 
 use super::Shelf;
 use crate::arena::store;
@@ -23,7 +23,7 @@ impl Shelf {
     /// In a log each row has a slot of its own. Else a row takes the slot of the one that it replaces.
     pub fn put(&mut self, row: RowEntry<'_>, log: bool) -> Result<(), TableFault>
         ensures put { Put (shelf_means self.old) (shelf_means self.new) (row_of row.entry) result }
-        ensures log { OnTrue log (Logged self.old self.new (row_of row.entry) result) }
+        ensures log { OnTrue log (ComesLast self.old self.new (row_of row.entry) result) }
     {
         let place = self.locate(row.key, row.seq);
         if self.lacks(row) {
