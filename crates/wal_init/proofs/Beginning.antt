@@ -1,6 +1,6 @@
 -- A fence that is put after the id to begin at was asked for.
-use Rattle.std.proofs.Common.{◌≡◌, ℕ, ◌≤◌, true, false, cond, eqb, ◌⊎◌, [], ◌∷◌, Err, sym, ap, ◌∙◌, subst, inl, inr, ⊎_elim, arith}
-use Rattle.std.proofs.lemmas.Bool.{cases_Bool, both_ways, cond-false, le-ltb}
+use Rattle.std.proofs.Common.{◌≡◌, ℕ, ◌≤◌, Bool, true, false, cond, eqb, ◌⊎◌, [], ◌∷◌, Err, sym, ap, ◌∙◌, subst, inl, inr, ⊎_elim, arith}
+use Rattle.std.proofs.lemmas.Bool.{both_ways, false_from_ne_true, cond-false, le-ltb}
 use Rattle.causes.specs.Said.{Said, granted}
 use Rattle.store.specs.Meaning.{Held, Meaning}
 use Rattle.store.specs.Calls.{OwnFault, put_leaves}
@@ -17,8 +17,8 @@ abbrev pub number_of : Said → ℕ
 number_of s = s.number
 
 -- a store that is unsteady later was unsteady before
-was_unsteady : (a b : Meaning) → (a.steady ≡ true → b.steady ≡ true) → b.steady ≡ false → a.steady ≡ false
-was_unsteady a b up f = ⊎_elim (λ (t : a.steady ≡ true). (let z : ◌≡◌ {A = ℕ} 0 1 = let q = sym (up t) ∙ f in cc in absurd (omega arith))) (λ e. e) (cases_Bool a.steady)
+pub was_unsteady : (a b : Bool) → (a ≡ true → b ≡ true) → b ≡ false → a ≡ false
+was_unsteady a b up f = false_from_ne_true a (λ t. both_ways b f (up t))
 
 -- what is held counts, and not which of two stores holds it
 module _ (a b c : Meaning) (start : ℕ) (s : Said) (same : b.held ≡ a.held) (up : a.steady ≡ true → b.steady ≡ true) where
@@ -31,7 +31,7 @@ module _ (a b c : Meaning) (start : ℕ) (s : Said) (same : b.held ≡ a.held) (
         steady = λ t. f.steady (up t);
         id = f.id;
         tried = subst P same f.tried;
-        answer = ⊎_elim (λ (x : Q b.held). inl (subst Q same x)) (λ (x : OwnFault b f.id s × R b.held). inr (record { unsteady = was_unsteady a b up x.0.unsteady; says = x.0.says }, subst R same x.1)) f.answer;
+        answer = ⊎_elim (λ (x : Q b.held). inl (subst Q same x)) (λ (x : OwnFault b f.id s × R b.held). inr (record { unsteady = was_unsteady a.steady b.steady up x.0.unsteady; says = x.0.says }, subst R same x.1)) f.answer;
       }
 
 module _ (a b c : Meaning) (m : ManifestRecord) (id : ℕ) (o : Options) (start : ℕ) (s : Said) where

@@ -17,10 +17,6 @@ use Rattle.wal_init.specs.Fences as fences
 use Rattle.wal_init.specs.WriterInit.{said_grant, start_says, TurnedAway, Begun, Carries}
 use Rattle.wal_init.specs.Laws.{Alike, OneOpening}
 
--- two truth values that are not one
-clash : (b : Bool) → b ≡ true → b ≡ false → ⊥
-clash b t f = both_ways b f t
-
 -- a steady store has no fault of its own
 pub never : (before : Meaning) → before.steady ≡ true → before.steady ≡ false → ⊥
 never before t f = both_ways before.steady f t
@@ -81,7 +77,7 @@ pub turned : (before after : Meaning) (m : ManifestRecord) (id : ℕ) (o : Optio
 turned before after m id o s st w = ⊎_elim (λ e. e) (λ u. absurd (never before st u.1.cut.unsteady)) w.answer
 
 pub apart : (h : Held) (m : ManifestRecord) (id : ℕ) (o : Options) (s : Said) (start : ℕ) → eqb s.number 0 ≡ false → s ≡ start_says h m id o → start_says h m id o ≡ granted (start ∷ []) → ⊥
-apart h m id o s start f e g = clash (eqb s.number 0) (ap (λ (r : Said). eqb r.number 0) (e ∙ g)) f
+apart h m id o s start f e g = both_ways (eqb s.number 0) f (ap (λ (r : Said). eqb r.number 0) (e ∙ g))
 
 abbrev pub first_of : Said → ℕ
 first_of s = get_or s.values 0 0
@@ -109,8 +105,8 @@ module _ (m : ManifestRecord) (o : Options) where
       let q : g.options ≡ h.options = c.1 ∙ sym d.1 in
       let b : g.block.bytes ≡ h.block.bytes = c.2 ∙ sym d.2 in
       (ap second_of e, cc)
-  alike (Ok g) (Err f) e c d = clash (eqb (fault f).number 0) (ap (λ (s : Said). eqb s.number 0) (sym e)) (never_zero f)
-  alike (Err f) (Ok g) e c d = clash (eqb (fault f).number 0) (ap (λ (s : Said). eqb s.number 0) e) (never_zero f)
+  alike (Ok g) (Err f) e c d = both_ways (eqb (fault f).number 0) (never_zero f) (ap (λ (s : Said). eqb s.number 0) (sym e))
+  alike (Err f) (Ok g) e c d = both_ways (eqb (fault f).number 0) (never_zero f) (ap (λ (s : Said). eqb s.number 0) e)
   alike (Err f) (Err g) e c d = told_apart f g e
 
 pub one_opening : OneOpening

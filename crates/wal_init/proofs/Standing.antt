@@ -13,7 +13,7 @@ use Rattle.wal_init.specs.Laws.{GrantedOpeningsFence, FreeIdsAreGranted, FilesSt
 use Rattle.wal_init.proofs.Beginning.{number_of}
 use Rattle.wal_init.proofs.Outcomes.{never, never_zero, one_stop, turned, apart, first_of, second_of}
 
-none_where_not : {A : Type 0} (o : Option A) → is_some o ≡ false → o ≡ None
+pub none_where_not : {A : Type 0} (o : Option A) → is_some o ≡ false → o ≡ None
 none_where_not None e = refl
 none_where_not (Some x) e = absurd (both_ways true e refl)
 

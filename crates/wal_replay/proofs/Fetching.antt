@@ -1,6 +1,6 @@
 -- The file at the front, asked for and read.
-use Rattle.std.proofs.Common.{◌≡◌, ℕ, ◌-◌, ◌≤◌, Bool, true, false, ltb, ◌⊎◌, List, [], ◌∷◌, ◌++◌, length, take, drop, Some, None, Ok, Err, Option, Result, sym, refl, ap, ◌∙◌, subst, inl, inr, ⊎_elim, arith}
-use Rattle.std.proofs.lemmas.Bool.{cases_Bool, cond-false, both_ways, le-ltb}
+use Rattle.std.proofs.Common.{◌≡◌, ℕ, ◌-◌, ◌≤◌, true, false, eqb, ltb, ◌⊎◌, List, [], ◌∷◌, ◌++◌, length, take, drop, Some, None, Ok, Err, Option, Result, sym, refl, ap, ◌∙◌, subst, inl, inr, ⊎_elim, arith}
+use Rattle.std.proofs.lemmas.Bool.{cond-false, both_ways, le-ltb}
 use Rattle.std.proofs.lemmas.List.{take_at}
 use Rattle.causes.specs.Said.{Said, refused, granted}
 use Rattle.store.specs.Meaning as store
@@ -11,33 +11,27 @@ use Rattle.store.specs.declared.fault.StoreFault.{StoreFault}
 use Rattle.store.specs.declared.fault.StoreFault.TheVariants.{Exists, Missing, NoRoom, TooLong, Short, Unavailable}
 use Rattle.mem_table.specs.Meaning.{Held}
 use Rattle.wal.specs.declared.fault.WalFault.{WalFault}
-use Rattle.wal.specs.declared.fault.WalFault.TheVariants.{Store, Fenced, WalTruncated, Closed, DataError, InternalError, InvalidSSTBatchSize, InvalidDBState, IdsSpent, Attempts, OutOfOrder, WriterFull, Busy, TicketsSpent, NotReplayed, BlockSize}
+use Rattle.wal.specs.declared.fault.WalFault.TheVariants.{Store}
 use Rattle.wal.specs.Said as wal-said
 use Rattle.wal_init.specs.Opening as opening
 use Rattle.wal_init.specs.Slots.{Says}
 use Rattle.wal_init.specs.declared.slot.SlotState.{SlotState}
 use Rattle.wal_init.specs.declared.slot.SlotState.TheVariants.{Waiting, Arrived, Refused}
 use Rattle.wal_init.specs.declared.window.Front.{Front}
+use Rattle.wal_init.proofs.Beginning.{number_of, was_unsteady}
+use Rattle.wal_init.proofs.Outcomes.{never_zero}
 use Rattle.wal_replay.specs.Replays.{Meaning, front, fence, first_slot, with_opening, moved}
 use Rattle.wal_replay.specs.Files.{met, refusal, read_met, Against, Refuses, Fetches, Fetched}
-
-abbrev number_of : Said → ℕ
-number_of s = s.number
 
 abbrev first_value : Said → List ℕ
 first_value s = s.values
 
-pub was_unsteady : (a b : Bool) → (a ≡ true → b ≡ true) → b ≡ false → a ≡ false
-was_unsteady a b h e = ⊎_elim (λ (p : a ≡ true). absurd (both_ways b e (h p))) (λ (p : a ≡ false). p) (cases_Bool a)
-
 -- no fault is numbered 0
+pub wal_numbered : (f : WalFault) → (wal-said.fault f).number ≡ 0 → ⊥
+wal_numbered f e = both_ways (eqb (wal-said.fault f).number 0) (never_zero f) (ap (λ n. eqb n 0) e)
+
 store_numbered : (f : StoreFault) → (Store-said.fault f).number ≡ 0 → ⊥
-store_numbered (Exists id) e = omega arith
-store_numbered (Missing id) e = omega arith
-store_numbered (NoRoom id) e = omega arith
-store_numbered (TooLong id) e = omega arith
-store_numbered (Short n) e = omega arith
-store_numbered (Unavailable id) e = omega arith
+store_numbered f = wal_numbered (Store f)
 
 met_numbered : (f : StoreFault) → (met f).number ≡ 0 → ⊥
 met_numbered (Exists id) e = omega arith
@@ -46,24 +40,6 @@ met_numbered (NoRoom id) e = omega arith
 met_numbered (TooLong id) e = omega arith
 met_numbered (Short n) e = omega arith
 met_numbered (Unavailable id) e = omega arith
-
-pub wal_numbered : (f : WalFault) → (wal-said.fault f).number ≡ 0 → ⊥
-wal_numbered (Store f) e = store_numbered f e
-wal_numbered (Fenced id) e = omega arith
-wal_numbered (WalTruncated id) e = omega arith
-wal_numbered Closed e = omega arith
-wal_numbered (DataError file line place) e = omega arith
-wal_numbered (InternalError id least greatest) e = omega arith
-wal_numbered (InvalidSSTBatchSize window) e = omega arith
-wal_numbered (InvalidDBState start) e = omega arith
-wal_numbered (IdsSpent id) e = omega arith
-wal_numbered (Attempts id) e = omega arith
-wal_numbered (OutOfOrder line) e = omega arith
-wal_numbered (WriterFull over) e = omega arith
-wal_numbered (Busy tickets requests) e = omega arith
-wal_numbered TicketsSpent e = omega arith
-wal_numbered (NotReplayed fence) e = omega arith
-wal_numbered (BlockSize size) e = omega arith
 
 -- Missing is met as the journal cut off, and the store's own fault as it is
 met_missing : (f : StoreFault) (id : ℕ) → Store-said.fault f ≡ refused 2 (id ∷ []) → met f ≡ refused 8 (id ∷ [])
@@ -92,7 +68,7 @@ module _ (s s₁ : store.Meaning) (id : ℕ) where
   says_ok : (slot : SlotState) (n : ℕ) → Says s s₁ slot id (Ok n) → refusal slot ≡ None
   says_ok Waiting n h = refl
   says_ok (Arrived k) n h = refl
-  says_ok (Refused f) n h = let p = h.1 in let z : ◌≡◌ {A = ℕ} 0 1 = cc in absurd (omega arith)
+  says_ok (Refused f) n h = let p = h.1 in cc
 
   -- a refusal is one that the slot keeps, the store's own fault, or that the file is missing
   says_err : (slot : SlotState) (f : StoreFault) → Says s s₁ slot id (Err f)
@@ -106,7 +82,7 @@ module _ (s s₁ : store.Meaning) (id : ℕ) where
           → ((refusal Waiting ≡ Some f) ⊎ ((refusal Waiting ≡ None) × (s.steady ≡ false) × (met f ≡ refused 6 (id ∷ [])))) ⊎ ((refusal Waiting ≡ None) × (s.held.files id ≡ None) × (met f ≡ refused 8 (id ∷ [])))
       by_file None e q = inr (refl, e, met_missing f id q)
       by_file (Some text) e q = absurd (store_numbered f (ap number_of q))
-  says_err (Arrived n) f h = let p = h.1 in let z : ◌≡◌ {A = ℕ} 0 1 = cc in absurd (omega arith)
+  says_err (Arrived n) f h = let p = h.1 in cc
   says_err (Refused k) f h = inl (inl (let p = h.1 in cc))
 
 module _ (s s₁ s₂ : store.Meaning) (m : Meaning) (asked : Front) (o : opening.Meaning) (taken : opening.Taken s s₁ m.opening o (Some asked)) where

@@ -17,7 +17,7 @@ use Rattle.wal_replay.specs.Texts.{Filled}
 use Rattle.wal_replay.specs.Replays.{Meaning, front, fence, watermark, moved, past, handed}
 use Rattle.wal_replay.specs.Files.{Files, Fair, Refuses, Takes, Taken}
 use Rattle.wal_replay.specs.Next.{Answer, told, wanted, after, over, is_ripe, some, Whole, closed, closing, Reading, Idle, Next, at_once, Weighed}
-use Rattle.wal_replay.proofs.Fetching.{was_unsteady}
+use Rattle.wal_init.proofs.Beginning.{was_unsteady}
 use Rattle.wal_replay.proofs.Standing.{weighs}
 
 -- puts behind puts

@@ -1,17 +1,14 @@
 -- Rows put one behind the other into an empty table: those that stand are the table's.
-use Rattle.std.proofs.Common.{◌≡◌, ℕ, true, false, cond, ◌&&◌, ltb, leb, List, [], ◌∷◌, length, is_some, Some, None, Option, sym, refl, ap, ◌∙◌, subst, inl, inr, arith}
-use Rattle.std.proofs.lemmas.Bool.{cases_Bool, both_ways, cond-true, cond-false}
+use Rattle.std.proofs.Common.{◌≡◌, ℕ, true, false, cond, ◌&&◌, ltb, leb, List, [], ◌∷◌, length, is_some, Some, None, Option, sym, refl, ap, ◌∙◌, subst, inl, inr}
+use Rattle.std.proofs.lemmas.Bool.{cases_Bool, cond-true, cond-false}
 use Rattle.rows.specs.Rows.{Row}
 use Rattle.rows.specs.Sizes.{size, total, compacted_size}
 use Rattle.mem_table.specs.Order.{has}
 use Rattle.mem_table.specs.Meaning.{Held, Meaning, Listed, lookup, with_row, added, all_added}
 use Rattle.mem_table.proofs.Keys.{has_true}
 use Rattle.mem_table.proofs.Counting.{Unique, found_first, found_past, agree, unique_from}
+use Rattle.wal_init.proofs.Standing.{none_where_not}
 use Rattle.wal_replay.specs.Rows.{standing, reaches, ripe}
-
-none_when : (o : Option Row) → is_some o ≡ false → o ≡ None
-none_when None e = refl
-none_when (Some r) e = absurd (both_ways (is_some (Some r)) e refl)
 
 stands_not : (r : Row) (rs : List Row) → is_some (lookup rs r.key r.seq) ≡ true → standing (r ∷ rs) ≡ standing rs
 stands_not r rs e = cond-true _ (standing rs) (r ∷ standing rs) e
@@ -24,7 +21,7 @@ not_there : (rs : List Row) (k : List ℕ) (n : ℕ) → lookup rs k n ≡ None 
 not_there [] k n e = refl
 not_there (r ∷ rs) k n e =
     elim (cases_Bool (has r k n)) [
-      | inl t ↦ (let z : Some r ≡ None = sym (found_first r rs k n t) ∙ e in let y : ◌≡◌ {A = ℕ} 0 1 = cc in absurd (omega arith))
+      | inl t ↦ (let z : Some r ≡ None = sym (found_first r rs k n t) ∙ e in cc)
       | inr t ↦ (
           let rest = not_there rs k n (sym (found_past r rs k n t) ∙ e) in
           elim (cases_Bool (is_some (lookup rs r.key r.seq))) [
@@ -39,7 +36,7 @@ unique [] = tt
 unique (r ∷ rs) =
     elim (cases_Bool (is_some (lookup rs r.key r.seq))) [
       | inl u ↦ subst Unique (sym (stands_not r rs u)) (unique rs)
-      | inr u ↦ subst Unique (sym (stands r rs u)) (not_there rs r.key r.seq (none_when _ u), unique rs)
+      | inr u ↦ subst Unique (sym (stands r rs u)) (not_there rs r.key r.seq (none_where_not _ u), unique rs)
     ]
 
 -- what a table holds after the puts
@@ -76,7 +73,7 @@ module _ (t t' : Meaning) (rs : List Row) (l : Listed t) (l' : Listed t') (empty
       ap (λ (f : List ℕ → ℕ → Option Row). f k n) (sym l'.rows) ∙ ap (λ (h : Held). h.rows k n) put ∙ holds t.held rs k n
       ∙ elim (cases_Bool (is_some (lookup rs k n))) [
         | inl u ↦ cond-true _ (lookup (standing rs) k n) (t.held.rows k n) u
-        | inr u ↦ cond-false _ (lookup (standing rs) k n) (t.held.rows k n) u ∙ none ∙ sym (not_there rs k n (none_when _ u))
+        | inr u ↦ cond-false _ (lookup (standing rs) k n) (t.held.rows k n) u ∙ none ∙ sym (not_there rs k n (none_where_not _ u))
       ]
 
   -- the table has come to a size where the rows that stand have

@@ -1,5 +1,5 @@
 -- A file that was asked for, read and put is a file taken.
-use Rattle.std.proofs.Common.{◌≡◌, ℕ, ◌-◌, ◌≤◌, Bool, true, false, cond, ◌||◌, ltb, List, [], ◌∷◌, length, take, ℤ, Some, Ok, Err, Result, MatchResult, sym, refl, ap, ◌∙◌, subst, inl, inr, arith}
+use Rattle.std.proofs.Common.{◌≡◌, ℕ, ◌-◌, ◌≤◌, Bool, true, false, cond, ◌||◌, ltb, List, [], ◌∷◌, length, take, ℤ, Some, Ok, Err, Result, MatchResult, sym, refl, ap, ◌∙◌, subst, inr, arith}
 use Rattle.std.proofs.lemmas.Bool.{cond-false, or_parts, ltb-false}
 use Rattle.causes.specs.Said.{Said, refused, granted}
 use Rattle.rows.specs.declared.types.Damage.{Damage}
@@ -16,19 +16,15 @@ use Rattle.wal_replay.specs.Texts.{surveyed, Surveyed, Roomy, Puts, Filled}
 use Rattle.store.specs.Meaning as store
 use Rattle.store.specs.Calls.{read_leaves}
 use Rattle.wal.specs.declared.fault.WalFault.{WalFault}
-use Rattle.wal.specs.declared.fault.WalFault.TheVariants.{DataError}
-use Rattle.wal.specs.Said.{fault as wal-fault}
 use Rattle.wal_init.specs.Opening as opening
 use Rattle.wal_init.specs.declared.window.Front.{Front}
 use Rattle.wal_replay.specs.declared.fault.ReplayFault.{ReplayFault}
 use Rattle.wal_replay.specs.declared.fault.ReplayFault.TheVariants.{Wal}
 use Rattle.wal_replay.specs.Replays.{Meaning, front, watermark, with_opening, moved}
-use Rattle.wal_replay.specs.Files.{disorder, full, or_else, Spoils, Against, RoomChecked, TextTaken, Fetched, Taken, passed}
+use Rattle.wal_replay.specs.Files.{disorder, full, or_else, Against, RoomChecked, TextTaken, Fetched, Taken, passed}
+use Rattle.wal_init.proofs.Beginning.{number_of}
 use Rattle.wal_replay.proofs.TextLaws.{text_unique}
 use Rattle.wal_replay.proofs.Fetching.{within, id_is, moved_is, held_all, steady_all, fetch_refused, Got, fetch_got}
-
-abbrev pub number_of : Said → ℕ
-number_of s = s.number
 
 -- where nothing is refused, the test was false
 pub not_full : (b : Bool) (id : ℕ) → granted [] ≡ cond b (refused 22 (id ∷ [])) (granted []) → b ≡ false
@@ -41,15 +37,11 @@ fits_in h rows e =
     let p = or_parts (ltb h.puts (length rows)) (ltb h.bytes (total weight rows)) e in
     (exact_room h rows).0 (ltb-false h.puts _ p.0, ltb-false h.bytes _ p.1)
 
--- a text that was looked over, where its damage is told as a fault
-module _ (id : ℕ) (text : List ℕ) (w : ℕ) (tick : ℤ) (seq : ℕ) where
+-- a text that was looked over and found sound, where its damage would be told as a fault
+module _ (text : List ℕ) (w : ℕ) (tick : ℤ) (seq : ℕ) where
   pub sound_look : (r : Result Survey Damage) (s : Survey) → MatchResult r (λ (x : Survey). ◌≡◌ {A = Result Survey WalFault} (Ok s) (Ok x)) (λ e. ⊥) → Surveyed text w tick seq r → Surveyed text w tick seq (Ok s)
   sound_look (Ok x) s e saw = let p : x ≡ s = cc in subst (λ (y : Survey). Surveyed text w tick seq (Ok y)) p saw
   sound_look (Err d) s e saw = absurd e
-
-  pub damaged_look : (m : Meaning) (h : Held) (r : Result Survey Damage) (f : WalFault) (Q : Damage → Type 0) → ((d : Damage) → Q d → f ≡ DataError id d.line d.place) → MatchResult r (λ (x : Survey). ◌≡◌ {A = Result Survey WalFault} (Err f) (Ok x)) Q → Surveyed text w tick seq r → Spoils id m h text (wal-fault f)
-  damaged_look m h (Ok x) f Q tells e saw = cc
-  damaged_look m h (Err d) f Q tells e saw = inl (d, saw, ap wal-fault (tells d e))
 
 module _ (id : ℕ) (m : Meaning) (t : table.Meaning) (text : List ℕ) (s : Survey) (w : ℕ) (at : w ≡ watermark m) (tick : ℤ) (then : tick ≡ m.latest_tick) (seq : ℕ) (so : seq ≡ m.latest_seq) (saw : Surveyed text w tick seq (Ok s)) (room : RoomChecked t id s.count s.bytes (granted [])) where
   uncrowded : crowds t.held (kept w saw.0) ≡ false

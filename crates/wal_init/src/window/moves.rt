@@ -35,11 +35,7 @@ impl Window {
         ensures few { result ≤ 16 }
     {
         let left = self.end + 1 - self.next;
-        if left < self.most as u64 {
-            left as usize
-        } else {
-            self.most
-        }
+        left.min(self.most as u64) as usize
     }
 
     /// Asks for the file so far behind the front, once, and says whether it asked.

@@ -66,13 +66,9 @@ impl WalReplayIterator {
         ensures state { self.new ≡ heard self.old (said res) }
         ensures answer { told result ≡ tells (said res) }
     {
-        match res {
-            Ok(()) => {
-                self.ended = true;
-                Ok(None)
-            }
-            Err(fault) => Err(fault),
-        }
+        res?;
+        self.ended = true;
+        Ok(None)
     }
 
     /// An end or a fault is met: it stands, and a table into which files were read is handed out first.
@@ -93,6 +89,7 @@ impl WalReplayIterator {
     }
 
     /// Reads file by file, until the table is ripe or an end or a fault is met.
+    // kept: the store, the table and the buffer are lent for one call each, as `next` is given them, so no struct holds the three
     fn read_on<S: Store, T: Table>(
         &mut self,
         store: &mut S,
