@@ -1,7 +1,7 @@
 //! Runs a whole script.
 use crate::session::{Session, Stop};
 use answers::answer::Answer;
-use answers::page::put_page;
+use printing::page::put_page;
 use script::reason::ScriptError;
 use script::script::Script;
 use std::alloc::{AllocError, Global};

@@ -1,7 +1,7 @@
 //! Runs a whole script.
 use crate::session::Session;
 use journal_answers::answer::Answer;
-use journal_answers::page::put_page;
+use printing::page::put_page;
 use script::reason::ScriptError;
 use script::script::Script;
 use setups::stop::Stop;
