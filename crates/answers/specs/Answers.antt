@@ -1,5 +1,5 @@
 -- What is printed of the answers, and the account of them.
-use Rattle.std.specs.Prelude.{ℕ, ◌+◌, ◌-◌, ◌^◌, min, Bool, cond, List, ◌++◌, is_err, Ok, Err, codes, decimal, Result}
+use Rattle.std.specs.Prelude.{ℕ, ◌+◌, ◌-◌, ◌^◌, min, Bool, true, false, List, ◌++◌, is_err, Ok, Err, codes, decimal, Result}
 use Rattle.row_text.specs.declared.fault.CheckFault.{CheckFault}
 use Rattle.row_text.specs.declared.fault.CheckFault.TheVariants.{Damaged, BlockSize}
 use Rattle.row_text.specs.declared.text.Checked.{Checked}
@@ -8,6 +8,8 @@ use Rattle.answers.specs.declared.answer.Answer.TheVariants.{Check, Put, Head, R
 use Rattle.store.specs.declared.fault.StoreFault.{StoreFault}
 use Rattle.store.specs.declared.fault.StoreFault.TheVariants.{Exists, Missing, NoRoom, TooLong, Short, Unavailable}
 use Rattle.store.specs.Said.{fault}
+use Rattle.printing.specs.Tallies.{no_calls}
+use Rattle.printing.specs.Tallies as tallies
 use Rattle.answers.specs.declared.account.Account.{Account}
 
 -- what a text holds, or the number and name of the cause that refused it
@@ -50,33 +52,33 @@ answered (Put id (Err f)) = codes "put " ++ (decimal id ++ (codes " -> " ++ refu
 answered (Head id r) = codes "head " ++ (decimal id ++ (codes " -> " ++ measured r))
 answered (Read id r) = codes "read " ++ (decimal id ++ (codes " -> " ++ measured r))
 
--- a count that stops at the largest u64
-abbrev pub one_more : ℕ → ℕ
-one_more n = min (n + 1) (2 ^ 64 - 1)
+-- the account before the first call
+abbrev pub no_account : Account
+no_account = record { texts = no_calls; rows = 0; store = no_calls; files = 0; bytes = 0 }
 
 -- a store's call, refused or not
 abbrev pub counted : Account → Bool → Account
-counted a denied = record { texts = a.texts; rows = a.rows; refused = a.refused; calls = one_more a.calls; denied = cond denied (one_more a.denied) a.denied; files = a.files; bytes = a.bytes }
+counted a denied = record { texts = a.texts; rows = a.rows; store = tallies.counted a.store denied; files = a.files; bytes = a.bytes }
 
 -- the account after one more answer
 abbrev pub noted : Account → Answer → Account
-noted a (Check (Ok k)) = record { texts = one_more a.texts; rows = min (a.rows + k.rows) (2 ^ 128 - 1); refused = a.refused; calls = a.calls; denied = a.denied; files = a.files; bytes = a.bytes }
-noted a (Check (Err f)) = record { texts = one_more a.texts; rows = a.rows; refused = one_more a.refused; calls = a.calls; denied = a.denied; files = a.files; bytes = a.bytes }
+noted a (Check (Ok k)) = record { texts = tallies.counted a.texts false; rows = min (a.rows + k.rows) (2 ^ 128 - 1); store = a.store; files = a.files; bytes = a.bytes }
+noted a (Check (Err f)) = record { texts = tallies.counted a.texts true; rows = a.rows; store = a.store; files = a.files; bytes = a.bytes }
 noted a (Put id r) = counted a (is_err r)
 noted a (Head id r) = counted a (is_err r)
 noted a (Read id r) = counted a (is_err r)
 
 -- the account with what the store holds
 abbrev pub holding : Account → ℕ → ℕ → Account
-holding a f b = record { texts = a.texts; rows = a.rows; refused = a.refused; calls = a.calls; denied = a.denied; files = f; bytes = b }
+holding a f b = record { texts = a.texts; rows = a.rows; store = a.store; files = f; bytes = b }
 
 -- the account for a person: what was checked, and what was asked of the store and is held there
 abbrev pub told_texts : Account → List ℕ
-told_texts a = codes "texts checked: " ++ (decimal a.texts ++ (codes "\nrows in them: " ++ (decimal a.rows ++ (codes "\ntexts refused: " ++ decimal a.refused))))
+told_texts a = codes "texts checked: " ++ (decimal a.texts.calls ++ (codes "\nrows in them: " ++ (decimal a.rows ++ (codes "\ntexts refused: " ++ decimal a.texts.refused))))
 
 abbrev pub told_store : Account → List ℕ
 told_store a =
-    codes "store calls: " ++ (decimal a.calls ++ (codes "\nstore calls refused: " ++ (decimal a.denied
+    codes "store calls: " ++ (decimal a.store.calls ++ (codes "\nstore calls refused: " ++ (decimal a.store.refused
     ++ (codes "\nfiles in the store: " ++ (decimal a.files ++ (codes "\nbytes in them: " ++ decimal a.bytes))))))
 
 abbrev pub told : Account → List ℕ

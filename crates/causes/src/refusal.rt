@@ -6,6 +6,7 @@ use super::Cause;
 use std::fmt;
 
 /// The values that a cause returns.
+// An enum and no `ArrayVec`: a refusal is copied, and an `ArrayVec` is not `Copy`.
 #[derive(Clone, Copy, PartialEq, Eq, Debug)]
 pub enum Values {
     None,

@@ -26,7 +26,7 @@ use Rattle.console.specs.declared.session.Session.{Session}
 use Rattle.console.specs.declared.session.Stop.{Stop}
 use Rattle.console.specs.declared.session.Stop.TheVariants.{Script, NoMemory}
 use Rattle.answers.specs.declared.account.Account.{Account}
-use Rattle.answers.specs.Answers.{holding, noted}
+use Rattle.answers.specs.Answers.{holding, no_account, noted}
 use Rattle.console.specs.Commands.{Asks}
 use Rattle.console.specs.Settings.{changed}
 use Rattle.console.specs.Setups.{Fresh, Marked, MarksAre}
@@ -42,7 +42,7 @@ closing s = holding s.account (s.places - (store_of s).held.places) (s.bytes - (
 -- the session before the first line
 pub record Begins (s : Session) : Type 0 where
   pub options : s.options ≡ record { block_size = 4096 }
-  pub account : s.account ≡ record { texts = 0; rows = 0; refused = 0; calls = 0; denied = 0; files = 0; bytes = 0 }
+  pub account : s.account ≡ no_account
   pub begun : s.begun ≡ false
   pub places : s.places ≡ 1024
   pub bytes : s.bytes ≡ 16777216

@@ -13,7 +13,7 @@ use std::alloc::{AllocError, Global};
 use store::{FaultScript, Mark, MemoryStore, Store};
 
 mod calls;
-mod printing;
+mod output;
 mod setting;
 
 /// What the calls of a script work on.

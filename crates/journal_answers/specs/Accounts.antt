@@ -1,15 +1,13 @@
 -- The account of the answers.
-use Rattle.std.specs.Prelude.{ℕ, ◌+◌, ◌-◌, ◌^◌, min, Bool, true, false, cond, List, ◌++◌, codes, decimal}
+use Rattle.std.specs.Prelude.{ℕ, ◌+◌, ◌-◌, ◌^◌, min, Bool, true, false, List, ◌++◌, codes, decimal}
+use Rattle.printing.specs.Tallies.{counted, no_calls, told_calls}
 use Rattle.journal_answers.specs.declared.account.Account.{Account}
 use Rattle.journal_answers.specs.declared.account.Part.{Part}
 use Rattle.journal_answers.specs.declared.account.Part.TheVariants.{Text, Table, Store, Journal}
-use Rattle.journal_answers.specs.declared.account.Tally.{Tally}
 use Rattle.journal_answers.specs.declared.answer.Answer.{Answer}
 use Rattle.journal_answers.specs.declared.answer.Answer.TheVariants as answer
 
-abbrev pub no_calls : Tally
-no_calls = record { calls = 0; refused = 0 }
-
+-- the account before the first call
 abbrev pub no_account : Account
 no_account = record { texts = no_calls; rows = 0; tables = no_calls; store = no_calls; journal = no_calls; files = 0; bytes = 0 }
 
@@ -39,14 +37,6 @@ checked_rows (answer.Replayed rows size last) = 0
 checked_rows answer.End = 0
 checked_rows (answer.Refused x) = 0
 
--- a count that stops at the largest u64
-abbrev pub one_more : ℕ → ℕ
-one_more n = min (n + 1) (2 ^ 64 - 1)
-
--- one call more, refused or not
-abbrev pub counted : Tally → Bool → Tally
-counted t refused = record { calls = one_more t.calls; refused = cond refused (one_more t.refused) t.refused }
-
 -- the account after one more answer
 abbrev pub noted : Account → Part → Answer → Account
 noted a Text x = record { texts = counted a.texts (is_refused x); rows = min (a.rows + checked_rows x) (2 ^ 128 - 1); tables = a.tables; store = a.store; journal = a.journal; files = a.files; bytes = a.bytes }
@@ -59,9 +49,6 @@ abbrev pub holding : Account → ℕ → ℕ → Account
 holding a f b = record { texts = a.texts; rows = a.rows; tables = a.tables; store = a.store; journal = a.journal; files = f; bytes = b }
 
 -- the account for a person: how many calls there were of each kind, and what the store holds
-abbrev pub told_calls : Tally → List ℕ
-told_calls t = decimal t.calls ++ (codes ", of which refused: " ++ decimal t.refused)
-
 abbrev pub told_store : Account → List ℕ
 told_store a = codes "journal calls: " ++ (told_calls a.journal ++ (codes "\nstore calls: " ++ (told_calls a.store ++ (codes "\nfiles in the store: " ++ (decimal a.files ++ (codes "\nbytes in them: " ++ decimal a.bytes))))))
 

@@ -1,44 +1,13 @@
 //! The closing account of a script.
 ghost use Rattle.std.specs.Prelude.{◌≡◌, Some};
-ghost use Rattle.journal_answers.specs.Accounts.{checked_rows, counted, holding, is_refused, no_account, no_calls, noted, told, told_calls, told_store};
+ghost use Rattle.journal_answers.specs.Accounts.{holding, no_account, noted, told};
 
 use crate::answer::Answer;
+use printing::tally::Tally;
 use std::fmt;
 
-/// How many calls were made, and how many of them were refused.
-#[derive(Clone, Copy)]
-pub struct Tally {
-    calls: u64,
-    refused: u64,
-}
-
-impl Tally {
-    /// No call yet.
-    pub fn new() -> Tally
-        ensures { result ≡ no_calls }
-    {
-        Tally {
-            calls: 0,
-            refused: 0,
-        }
-    }
-
-    /// One call more.
-    pub fn count(self, refused: bool) -> Tally
-        ensures { result ≡ counted self refused }
-    {
-        Tally {
-            calls: self.calls.saturating_add(1),
-            refused: if refused {
-                self.refused.saturating_add(1)
-            } else {
-                self.refused
-            },
-        }
-    }
-}
-
 /// What a call is about.
+// An enum and no lent tally: the promises of the calls name the part, and the fields of an account are its own.
 #[derive(Clone, Copy)]
 pub enum Part {
     Text,
@@ -48,7 +17,7 @@ pub enum Part {
 }
 
 /// The calls of a script by what they were about, the rows of the texts that were checked, and what the store holds.
-#[derive(Clone, Copy)]
+#[derive(Clone, Copy, Default)]
 pub struct Account {
     texts: Tally,
     rows: u128,
@@ -59,40 +28,12 @@ pub struct Account {
     bytes: usize,
 }
 
-/// Whether a call was refused.
-fn refused(answer: Answer) -> bool
-    ensures { result ≡ is_refused answer }
-{
-    match answer {
-        Answer::Refused(_) => true,
-        _ => false,
-    }
-}
-
-/// The rows of a text that was checked.
-fn rows_of(answer: Answer) -> u64
-    ensures { result ≡ checked_rows answer }
-{
-    match answer {
-        Answer::Checked(checked) => checked.rows,
-        _ => 0,
-    }
-}
-
 impl Account {
     /// The account before the first call.
     pub fn new() -> Account
         ensures { result ≡ no_account }
     {
-        Account {
-            texts: Tally::new(),
-            rows: 0,
-            tables: Tally::new(),
-            store: Tally::new(),
-            journal: Tally::new(),
-            files: 0,
-            bytes: 0,
-        }
+        Account::default()
     }
 
     /// The account with what the store holds.
@@ -106,59 +47,20 @@ impl Account {
         }
     }
 
-    /// The account with one answer more.
-    pub fn noting(self, part: Part, answer: Answer) -> Account
-        ensures { result ≡ noted self part answer }
+    /// Counts an answer.
+    pub fn note(&mut self, part: Part, answer: Answer)
+        ensures { self.new ≡ noted self.old part answer }
     {
-        let refused = refused(answer);
+        let refused = answer.is_refused();
         match part {
-            Part::Text => Account {
-                texts: self.texts.count(refused),
-                rows: self.rows.saturating_add(u128::from(rows_of(answer))),
-                ..self
-            },
-            Part::Table => Account {
-                tables: self.tables.count(refused),
-                ..self
-            },
-            Part::Store => Account {
-                store: self.store.count(refused),
-                ..self
-            },
-            Part::Journal => Account {
-                journal: self.journal.count(refused),
-                ..self
-            },
+            Part::Text => {
+                self.texts.count(refused);
+                self.rows = self.rows.saturating_add(u128::from(answer.checked_rows()));
+            }
+            Part::Table => self.tables.count(refused),
+            Part::Store => self.store.count(refused),
+            Part::Journal => self.journal.count(refused),
         }
-    }
-}
-
-impl fmt::Display for Tally {
-    ghost output = { λ t. Some (told_calls t) };
-
-    fn fmt<W: fmt::Write>(&self, f: &mut fmt::Formatter<W>) -> fmt::Result {
-        let calls = self.calls;
-        let refused = self.refused;
-        write!(f, "{calls}, of which refused: {refused}")
-    }
-}
-
-/// What was asked of the journal and of its store, and what the store holds.
-#[derive(Clone, Copy)]
-struct StoreLines(Account);
-
-impl fmt::Display for StoreLines {
-    ghost output = { λ x. Some (told_store x.0) };
-
-    fn fmt<W: fmt::Write>(&self, f: &mut fmt::Formatter<W>) -> fmt::Result {
-        let journal = self.0.journal;
-        let store = self.0.store;
-        let files = self.0.files;
-        let bytes = self.0.bytes;
-        write!(
-            f,
-            "journal calls: {journal}\nstore calls: {store}\nfiles in the store: {files}\nbytes in them: {bytes}"
-        )
     }
 }
 
@@ -166,13 +68,10 @@ impl fmt::Display for Account {
     ghost output = { λ a. Some (told a) };
 
     fn fmt<W: fmt::Write>(&self, f: &mut fmt::Formatter<W>) -> fmt::Result {
-        let texts = self.texts;
-        let rows = self.rows;
-        let tables = self.tables;
-        let store = StoreLines(*self);
         write!(
             f,
-            "account\ntexts checked: {texts}\nrows in them: {rows}\ntables loaded: {tables}\n{store}"
+            "account\ntexts checked: {}\nrows in them: {}\ntables loaded: {}\njournal calls: {}\nstore calls: {}\nfiles in the store: {}\nbytes in them: {}",
+            self.texts, self.rows, self.tables, self.journal, self.store, self.files, self.bytes,
         )
     }
 }

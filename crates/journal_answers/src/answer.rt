@@ -1,18 +1,14 @@
 //! The answers of calls, as they are printed.
-ghost use Rattle.std.specs.Prelude.{Some};
-ghost use Rattle.loader.specs.Loads.{fault as load_fault};
-ghost use Rattle.row_text.specs.Checks.{fault as check_fault};
-ghost use Rattle.store.specs.Said.{fault as store_fault};
-ghost use Rattle.wal.specs.Said.{fault as wal_fault};
-ghost use Rattle.journal_answers.specs.Answers.{Shows, answered, done, length_of, loaded_as, seen, tail_at, text_of};
+ghost use Rattle.std.specs.Prelude.{◌≡◌, Some, MatchResult};
+ghost use Rattle.causes.specs.declared.refusal.Refusal.{Refusal};
+ghost use Rattle.journal_answers.specs.declared.answer.Answer.TheVariants.{Refused};
+ghost use Rattle.journal_answers.specs.Accounts.{checked_rows, is_refused};
+ghost use Rattle.journal_answers.specs.Answers.{answered};
 
-use crate::refusals::{of_check, of_load, of_store, of_wal};
 use causes::Refusal;
-use loader::{LoadFault, Loaded};
-use row_text::{CheckFault, Checked};
+use loader::Loaded;
+use row_text::Checked;
 use std::fmt;
-use store::StoreFault;
-use wal::WalFault;
 use wal_replay::ReplayedMemtable;
 
 /// What a call answers.
@@ -51,63 +47,29 @@ pub enum Answer {
     Refused(Refusal),
 }
 
-/// The answer of `check`.
-pub fn check_answer(found: Result<Checked, CheckFault>) -> Answer
-    ensures { Shows seen check_fault found result }
-{
-    match found {
-        Ok(checked) => Answer::Checked(checked),
-        Err(fault) => Answer::Refused(of_check(fault)),
+impl Answer {
+    /// What a call answers: what is found, or the refusal that a fault is.
+    pub fn of<E: Into<Refusal>>(found: Result<Answer, E>) -> Answer
+        ensures { MatchResult found (λ x. result ≡ x) (λ e. (r : Refusal) × (result ≡ Refused r) × E.converts e r) }
+    {
+        found.unwrap_or_else(|fault| Answer::Refused(fault.into()))
     }
-}
 
-/// The answer of `put`.
-pub fn put_answer(found: Result<(), StoreFault>) -> Answer
-    ensures { Shows done store_fault found result }
-{
-    match found {
-        Ok(()) => Answer::Done,
-        Err(fault) => Answer::Refused(of_store(fault)),
+    /// Whether a call was refused.
+    pub(crate) fn is_refused(self) -> bool
+        ensures { result ≡ is_refused self }
+    {
+        matches!(self, Answer::Refused(_))
     }
-}
 
-/// The answer of `head`.
-pub fn head_answer(found: Result<usize, StoreFault>) -> Answer
-    ensures { Shows length_of store_fault found result }
-{
-    match found {
-        Ok(length) => Answer::Length(length),
-        Err(fault) => Answer::Refused(of_store(fault)),
-    }
-}
-
-/// The answer of `read`.
-pub fn read_answer(found: Result<usize, StoreFault>) -> Answer
-    ensures { Shows text_of store_fault found result }
-{
-    match found {
-        Ok(length) => Answer::Text(length),
-        Err(fault) => Answer::Refused(of_store(fault)),
-    }
-}
-
-/// The answer of `load`.
-pub fn load_answer(found: Result<Loaded, LoadFault>) -> Answer
-    ensures { Shows loaded_as load_fault found result }
-{
-    match found {
-        Ok(loaded) => Answer::Loaded(loaded),
-        Err(fault) => Answer::Refused(of_load(fault)),
-    }
-}
-
-/// The answer of `tail`.
-pub fn tail_answer(found: Result<(u64, u32), WalFault>) -> Answer
-    ensures { Shows tail_at wal_fault found result }
-{
-    match found {
-        Ok((id, heads)) => Answer::Tail { id, heads },
-        Err(fault) => Answer::Refused(of_wal(fault)),
+    /// The rows of a text that was checked.
+    pub(crate) fn checked_rows(self) -> u64
+        ensures { result ≡ checked_rows self }
+    {
+        match self {
+            Answer::Checked(checked) => checked.rows,
+            _ => 0,
+        }
     }
 }
 
@@ -139,12 +101,10 @@ impl fmt::Display for Answer {
             Answer::Asked(true) => write!(f, "asked"),
             Answer::Asked(false) => write!(f, "not asked"),
             Answer::Replayed { rows, size, last } => {
-                let tick = last.last_tick;
-                let seq = last.last_seq;
-                let wal = last.last_wal_id;
                 write!(
                     f,
-                    "table rows {rows} size {size} tick {tick} seq {seq} wal {wal}"
+                    "table rows {rows} size {size} tick {} seq {} wal {}",
+                    last.last_tick, last.last_seq, last.last_wal_id,
                 )
             }
             Answer::End => write!(f, "end"),

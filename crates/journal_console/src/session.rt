@@ -16,7 +16,7 @@ use store::{FaultScript, Mark, MemoryStore, Store};
 
 mod calls;
 mod journal;
-mod printing;
+mod output;
 mod setting;
 
 /// What the calls of a script work on.

@@ -5,9 +5,7 @@ ghost use Rattle.journal_console.specs.Sessions.{Noted};
 
 use super::Session;
 use journal_answers::account::Part;
-use journal_answers::answer::{
-    Answer, check_answer, head_answer, load_answer, put_answer, read_answer,
-};
+use journal_answers::answer::Answer;
 use script::call::Text;
 use script::hex::{TextFault, decode};
 use script::reason::Reason;
@@ -31,7 +29,7 @@ impl Session {
         ensures { Noted self.old part answer self.new }
     {
         self.begun = true;
-        self.account = self.account.noting(part, answer);
+        self.account.note(part, answer);
     }
 
     /// Checks a text.
@@ -46,7 +44,7 @@ impl Session {
                 Err(fault) => return Err(stop_of(fault)),
             },
         };
-        let answer = check_answer(found);
+        let answer = Answer::of(found.map(Answer::Checked));
         self.note(Part::Text, answer);
         Ok(Some(answer))
     }
@@ -70,7 +68,7 @@ impl Session {
         let Ok(loaded) = made else {
             return Err(Stop::NoMemory);
         };
-        let answer = load_answer(loaded);
+        let answer = Answer::of(loaded.map(Answer::Loaded));
         self.note(Part::Table, answer);
         Ok(Some(answer))
     }
@@ -86,7 +84,7 @@ impl Session {
                 Err(fault) => return Err(stop_of(fault)),
             },
         };
-        let answer = put_answer(done);
+        let answer = Answer::of(done.map(|()| Answer::Done));
         self.note(Part::Store, answer);
         Ok(Some(answer))
     }
@@ -96,7 +94,7 @@ impl Session {
         ensures { AsksHead self.old id result self.new }
     {
         let found = self.store.head(id);
-        let answer = head_answer(found);
+        let answer = Answer::of(found.map(Answer::Length));
         self.note(Part::Store, answer);
         answer
     }
@@ -106,7 +104,7 @@ impl Session {
         ensures { AsksRead self.old id result self.new }
     {
         let found = self.store.read(id, &mut self.page);
-        let answer = read_answer(found);
+        let answer = Answer::of(found.map(Answer::Text));
         self.note(Part::Store, answer);
         answer
     }

@@ -4,8 +4,7 @@ ghost use Rattle.journal_console.specs.Journal.{AsksArrive, AsksOpen, AsksTail, 
 
 use super::Session;
 use journal_answers::account::Part;
-use journal_answers::answer::{Answer, tail_answer};
-use journal_answers::refusals::of_wal;
+use journal_answers::answer::Answer;
 use script::reason::Reason;
 use setups::stop::Stop;
 use stations::{Name, Station, find};
@@ -18,7 +17,7 @@ impl Session {
         ensures { AsksTail self.old start result self.new }
     {
         let found = last_seen_wal_id(&mut self.store, start);
-        let answer = tail_answer(found);
+        let answer = Answer::of(found.map(|(id, heads)| Answer::Tail { id, heads }));
         self.note(Part::Journal, answer);
         answer
     }
@@ -39,7 +38,7 @@ impl Session {
                 self.stations.push_reserved(Station { name, opening });
                 answer
             }
-            Err(fault) => Answer::Refused(of_wal(fault)),
+            Err(fault) => Answer::Refused(fault.into()),
         }
     }
 

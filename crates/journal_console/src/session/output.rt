@@ -1,7 +1,7 @@
 //! What a session prints of its calls.
 use super::Session;
 use journal_answers::answer::Answer;
-use journal_answers::page::put_page;
+use printing::page::put_page;
 use running::{Console, Failure};
 use script::call::Call;
 use script::reason::ScriptError;

@@ -1,10 +1,11 @@
 //! Texts of files, as they are printed.
 ghost use Rattle.std.specs.Prelude.{◌≡◌, ◌<◌, true, [], ◌++◌, OnOk};
-ghost use Rattle.answers.specs.Pages.{begun, digit, paged, printed};
+ghost use Rattle.printing.specs.Pages.{begun, digit, paged, printed};
 
 use std::alloc::AllocError;
 
 /// The hexadecimal digit of a number below 16.
+// `char::from_digit` is no plainer: it gives an `Option<char>`, which is a byte only after two steps more.
 fn hex_digit(n: u8) -> u8
     requires { n < 16 }
     ensures { result ≡ digit n }
@@ -16,10 +17,9 @@ fn hex_digit(n: u8) -> u8
 fn put_byte(b: u8, out: &mut Vec<u8>) -> Result<(), AllocError>
     ensures { OnOk result (out.new.items ≡ out.old.items ++ printed b) }
 {
-    if b == b'\n' || b == b'\t' || (b >= 32 && b < 127) {
-        out.extend_from_slice(&[b])
-    } else {
-        out.extend_from_slice(&[b'\\', b'x', hex_digit(b / 16), hex_digit(b % 16)])
+    match b {
+        b'\n' | b'\t' | b' '..=b'~' => out.extend_from_slice(&[b]),
+        _ => out.extend_from_slice(&[b'\\', b'x', hex_digit(b / 16), hex_digit(b % 16)]),
     }
 }
 
@@ -41,12 +41,12 @@ fn put_end(fresh: bool, out: &mut Vec<u8>) -> Result<(), AllocError>
 pub fn put_page(text: &[u8], out: &mut Vec<u8>) -> Result<(), AllocError>
     ensures { OnOk result (out.new.items ≡ out.old.items ++ paged true text.now) }
 {
+    // A flag and no list of lines: slices have no `split_inclusive`, and `split` gives one empty line more behind the last line end.
     let mut fresh = true;
     for b in text {
         put_margin(fresh, out)?;
         put_byte(*b, out)?;
         fresh = *b == b'\n';
     }
-    put_end(fresh, out)?;
-    Ok(())
+    put_end(fresh, out)
 }
