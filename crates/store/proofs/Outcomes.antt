@@ -3,7 +3,7 @@ use Rattle.std.proofs.Common.{◌≡◌, ℕ, Bool, true, cond, eqb, List, get_o
 use Rattle.store.specs.declared.fault.StoreFault.{StoreFault}
 use Rattle.store.specs.declared.fault.StoreFault.TheVariants.{Exists, Missing, NoRoom, TooLong, Short, Unavailable}
 use Rattle.causes.specs.Said.{Said}
-use Rattle.store.specs.Said.{said, said_length}
+use Rattle.store.specs.Said.{fault, said, said_length}
 use Rattle.store.specs.Meaning.{Meaning, Held}
 use Rattle.store.specs.Calls.{put_says, put_leaves, Put, OwnFault}
 use Rattle.store.specs.Laws.{OnePut, OneHead, OneRead, GrantedPutsCreate, FilesStay, RefusedPutsLeave}
@@ -18,36 +18,35 @@ fault_of n v =
     (cond (eqb n 5) (Short v)
     (Unavailable v)))))
 
--- an answer is known by what it says
-told : Said → Result (Unit {0}) StoreFault
-told s = cond (eqb s.number 0) (Ok tt) (Err (fault_of s.number (get_or s.values 0 0)))
+-- an answer is known by what it says, and by the value that a granted one has
+told : {A : Type 0} → A → Said → Result A StoreFault
+told a s = cond (eqb s.number 0) (Ok a) (Err (fault_of s.number (get_or s.values 0 0)))
+
+told_fault : {A : Type 0} (a : A) (f : StoreFault) → told a (fault f) ≡ Err f
+unfolding told fault_of
+told_fault a (Exists id) = refl
+told_fault a (Missing id) = refl
+told_fault a (NoRoom id) = refl
+told_fault a (TooLong id) = refl
+told_fault a (Short n) = refl
+told_fault a (Unavailable id) = refl
+
+told_back : (r : Result (Unit {0}) StoreFault) → told tt (said r) ≡ r
+unfolding told
+told_back (Ok u) = refl
+told_back (Err f) = told_fault tt f
 
 told_length : Said → Result ℕ StoreFault
-told_length s = cond (eqb s.number 0) (Ok (get_or s.values 0 0)) (Err (fault_of s.number (get_or s.values 0 0)))
-
-told_back : (r : Result (Unit {0}) StoreFault) → told (said r) ≡ r
-unfolding told fault_of
-told_back (Ok u) = refl
-told_back (Err (Exists id)) = refl
-told_back (Err (Missing id)) = refl
-told_back (Err (NoRoom id)) = refl
-told_back (Err (TooLong id)) = refl
-told_back (Err (Short n)) = refl
-told_back (Err (Unavailable id)) = refl
+told_length s = told (get_or s.values 0 0) s
 
 told_length_back : (r : Result ℕ StoreFault) → told_length (said_length r) ≡ r
-unfolding told_length fault_of
+unfolding told told_length
 told_length_back (Ok n) = refl
-told_length_back (Err (Exists id)) = refl
-told_length_back (Err (Missing id)) = refl
-told_length_back (Err (NoRoom id)) = refl
-told_length_back (Err (TooLong id)) = refl
-told_length_back (Err (Short n)) = refl
-told_length_back (Err (Unavailable id)) = refl
+told_length_back (Err f) = told_fault (get_or (fault f).values 0 0) f
 
 -- two answers that say the same are the same
 pub said_once : (r s : Result (Unit {0}) StoreFault) → said r ≡ said s → r ≡ s
-said_once r s e = sym (told_back r) ∙ ap told e ∙ told_back s
+said_once r s e = sym (told_back r) ∙ ap (told tt) e ∙ told_back s
 
 pub said_length_once : (r s : Result ℕ StoreFault) → said_length r ≡ said_length s → r ≡ s
 said_length_once r s e = sym (told_length_back r) ∙ ap told_length e ∙ told_length_back s

@@ -9,14 +9,14 @@ use std::alloc::{AllocError, Global};
 /// Extents in the order of their ids.
 // A sorted vector, since a map would ask for memory in a call: here it is all reserved at the making.
 #[derive(Drop)]
-pub struct Index {
+pub(crate) struct Index {
     extents: Vec<Extent>,
     ghost ordered: { Ascending extents.items },
 }
 
 impl Index {
     /// An empty index with memory for so many extents.
-    pub fn with_capacity(heap: Global, places: usize) -> Result<Index, AllocError>
+    pub(crate) fn with_capacity(heap: Global, places: usize) -> Result<Index, AllocError>
         ensures empty { IfOk result (λ x. x.extents.items ≡ []) }
         ensures reserved { IfOk result (λ x. places ≤ vec_capacity x.extents) }
     {
@@ -25,14 +25,14 @@ impl Index {
     }
 
     /// The place of an id, or the place where it would stand.
-    pub fn locate(&self, id: u64) -> Result<usize, usize>
+    pub(crate) fn locate(&self, id: u64) -> Result<usize, usize>
         ensures { MatchResult result (λ n. Present self.now.extents.items id n) (λ n. Absent self.now.extents.items id n) }
     {
         self.extents.binary_search_by_key(&id, |extent| extent.id)
     }
 
     /// The extent of an id.
-    pub fn find(&self, id: u64) -> Option<Extent>
+    pub(crate) fn find(&self, id: u64) -> Option<Extent>
         ensures { result ≡ extent_of self.now.extents.items id }
     {
         let n = self.locate(id).ok()?;
@@ -40,7 +40,7 @@ impl Index {
     }
 
     /// Inserts an extent at its place, for which memory is reserved.
-    pub fn insert(&mut self, n: usize, extent: Extent)
+    pub(crate) fn insert(&mut self, n: usize, extent: Extent)
         requires absent { Absent self.old.extents.items extent.id n }
         requires reserved { vec_len self.old.extents < vec_capacity self.old.extents }
         ensures len { vec_len self.new.extents ≡ vec_len self.old.extents + 1 }

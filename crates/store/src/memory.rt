@@ -10,6 +10,7 @@ mod answers;
 /// Files in one text, found by an index in the order of their ids.
 // One text, since a text for each file would ask for memory in a call. No model, since what a store holds has a function
 // for its files, and a model's value can hold none.
+// The room left is counted, since a vector may reserve more than was asked for.
 #[derive(Drop)]
 pub struct MemoryStore {
     index: Index,
