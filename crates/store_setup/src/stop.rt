@@ -1,7 +1,9 @@
 //! Why a line is not performed.
 ghost use Rattle.std.specs.Prelude.{◌≡◌};
-ghost use Rattle.setups.specs.declared.stop.Stop.TheVariants.{NoMemory as HadNoMemory, Script as WasScript};
+ghost use Rattle.store_setup.specs.Stops.{stopped};
+ghost use Rattle.store_setup.specs.declared.stop.Stop.TheVariants.{NoMemory as HadNoMemory, Script as WasScript};
 
+use script::hex::TextFault;
 use script::reason::Reason;
 use std::alloc::AllocError;
 
@@ -17,6 +19,17 @@ impl From<Reason> for Stop {
 
     fn from(reason: Reason) -> Stop {
         Stop::Script(reason)
+    }
+}
+
+impl From<TextFault> for Stop {
+    ghost from_gives = { λ f r. r ≡ stopped f };
+
+    fn from(fault: TextFault) -> Stop {
+        match fault {
+            TextFault::NotHex => Stop::Script(Reason::NotHex),
+            TextFault::NoMemory => Stop::NoMemory,
+        }
     }
 }
 

@@ -9,8 +9,8 @@ use Rattle.store.specs.Meaning.{empty, steady_store}
 use Rattle.store.specs.Memory.{memory_means}
 use Rattle.store.specs.Scripted.{marks_left}
 use Rattle.script.specs.declared.reason.Reason.TheVariants.{UnknownMark}
-use Rattle.setups.specs.declared.stop.Stop.{Stop}
-use Rattle.setups.specs.declared.stop.Stop.TheVariants.{Script, NoMemory}
+use Rattle.store_setup.specs.declared.stop.Stop.{Stop}
+use Rattle.store_setup.specs.declared.stop.Stop.TheVariants.{Script, NoMemory}
 
 -- an empty store with this room, under the first 64 of the marks
 pub record Fresh (places bytes : ℕ) (marks : List Mark) (s : FaultScript MemoryStore) : Type 0 where

@@ -1,7 +1,7 @@
 -- Words read as marks one by one.
 use Rattle.std.proofs.Common.{◌≡◌, ℕ, List, [], ◌∷◌, ◌++◌, sym, refl, subst, inr, append_assoc, append-nil}
 use Rattle.store.specs.declared.marks.Mark.{Mark}
-use Rattle.setups.specs.Marks.{mark_word, MarksAre, NoMark}
+use Rattle.store_setup.specs.Marks.{mark_word, MarksAre, NoMark}
 
 -- what the words say, once what is left of them is known
 pub record SoFar (ws : List (List ℕ)) (ms : List Mark) (left : List (List ℕ)) : Type 0 where
