@@ -1,19 +1,29 @@
--- The words of a line as settings, one after another.
-use Rattle.std.proofs.Common.{◌≡◌, ℕ, List, Some, Ok, Err, Option, Result, sym, ap, ◌∙◌, subst, inl, inr}
-use Rattle.commands.specs.declared.options.Options.{Options}
-use Rattle.commands.specs.declared.options.Setting.{Setting}
-use Rattle.script.specs.declared.reason.Reason.{Reason}
-use Rattle.script.specs.Parts.{Parts}
-use Rattle.commands.specs.Settings.{Changed, Sets, with}
-use Rattle.script.specs.Words.{others}
-use Rattle.script.proofs.Wording.{words_first}
+-- A word that begins with an option's name and the sign behind it.
+use Rattle.std.proofs.Common.{◌≡◌, ℕ, List, ◌∷◌, ◌++◌, Some, codes, ◌≢◌, sym, refl, ap, ◌∙◌, subst, append_assoc}
+use Rattle.script.specs.Parts.{Free, Parts}
+use Rattle.script.proofs.Parting.{free_from_lacks, not_free, one_front}
+use Rattle.commands.specs.declared.options.Key.{Key}
+use Rattle.commands.specs.declared.options.Key.TheVariants as key
+use Rattle.commands.specs.Settings.{key_name, key_word}
 
--- a word that is a setting
-pub set_more : (rest : Option (List ℕ)) (line front : List ℕ) (behind : Option (List ℕ)) (c d : Options) (s : Setting) (r : Result Options Reason) → rest ≡ Some line → Parts 32 line front behind → Sets front (Ok s) → d ≡ with c s → Changed (others behind) d r → Changed (others rest) c r
-set_more rest line front behind c d s r e p h w m =
-    subst (λ (ws : List (List ℕ)). Changed ws c r) (sym (ap others e ∙ words_first line front behind p)) (inl (s, h, subst (λ (x : Options). Changed (others behind) x r) w m))
+free_name : (k : Key) → Free 61 (key_name k)
+free_name key.SstBatchSize = free_from_lacks 61 (codes "sst_batch_size") refl
+free_name key.MaxWalBytesSize = free_from_lacks 61 (codes "max_wal_bytes_size") refl
+free_name key.MaxMemtableBytes = free_from_lacks 61 (codes "max_memtable_bytes") refl
+free_name key.BlockSize = free_from_lacks 61 (codes "block_size") refl
+free_name key.MinSeq = free_from_lacks 61 (codes "min_seq") refl
 
--- one that is none
-pub set_fault : (rest : Option (List ℕ)) (line front : List ℕ) (behind : Option (List ℕ)) (c : Options) (f : Reason) (r : Result Options Reason) → rest ≡ Some line → Parts 32 line front behind → Sets front (Err f) → r ≡ Err f → Changed (others rest) c r
-set_fault rest line front behind c f r e p h x =
-    subst (λ (ws : List (List ℕ)). Changed ws c r) (sym (ap others e ∙ words_first line front behind p)) (inr (f, h, x))
+name_word : (k : Key) (v : List ℕ) → key_word k ++ v ≡ key_name k ++ (61 ∷ v)
+name_word k v = append_assoc (key_name k) (codes "=") v
+
+-- a word without the sign
+pub unsigned : (w : List ℕ) → Free 61 w → (k : Key) (v : List ℕ) → w ≢ key_word k ++ v
+unsigned w f k v e = not_free 61 (key_name k) v (subst (Free 61) (e ∙ name_word k v) f)
+
+-- a word whose front is no name
+pub unnamed : (w name value : List ℕ) → Parts 61 w name (Some value) → ((k : Key) → name ≢ key_name k) → (k : Key) (v : List ℕ) → w ≢ key_word k ++ v
+unnamed w name value p h k v e = h k (one_front 61 name (key_name k) value v p.free (free_name k) (sym p.whole ∙ e ∙ name_word k v))
+
+-- a word whose front is a name
+pub named : (w name value : List ℕ) (k : Key) → Parts 61 w name (Some value) → name ≡ key_name k → w ≡ key_word k ++ value
+named w name value k p e = p.whole ∙ ap (λ (n : List ℕ). n ++ (61 ∷ value)) e ∙ sym (name_word k value)

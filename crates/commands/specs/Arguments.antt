@@ -5,7 +5,6 @@ use Rattle.script.specs.declared.number.NumberFault.{NumberFault}
 use Rattle.script.specs.declared.reason.Reason.{Reason}
 use Rattle.script.specs.declared.reason.Reason.TheVariants.{Number, WrongWords}
 use Rattle.script.specs.Numerals.{Reads}
-use Rattle.commands.specs.declared.arguments.Numbered.{Numbered}
 use Rattle.commands.specs.declared.command.TableKind.{TableKind}
 use Rattle.commands.specs.declared.command.TableKind.TheVariants.{Sorted, Log}
 
@@ -37,9 +36,9 @@ Two (w ∷ x ∷ []) r = Both w x r
 Two (w ∷ x ∷ y ∷ ws) r = r ≡ Err WrongWords
 
 -- a word, and a number behind it
-abbrev pub Named : List (List ℕ) → Result Numbered Reason → Type 0
+abbrev pub Named : List (List ℕ) → Result (Bor (List ℕ) × ℕ) Reason → Type 0
 Named [] r = r ≡ Err WrongWords
-Named (w ∷ ws) (Ok p) = (p.name.now ≡ w) × One ws (Ok p.number)
+Named (w ∷ ws) (Ok p) = (p.0.now ≡ w) × One ws (Ok p.1)
 Named (w ∷ ws) (Err e) = One ws (Err e)
 
 -- the words for the kinds of tables

@@ -1,11 +1,9 @@
 -- What a call asks for.
 use Rattle.std.specs.Prelude.{◌≡◌, ℕ, ◌⊎◌, List, [], ◌∷◌, Some, None, Ok, Err, Option, Result, ◌≢◌}
-use Rattle.std.specs.Option.{option_map}
 use Rattle.script.specs.declared.call.Text.{Text}
 use Rattle.script.specs.declared.reason.Reason.{Reason}
 use Rattle.script.specs.declared.reason.Reason.TheVariants.{UnknownCommand, WrongWords, NoText, ExtraText, UnknownTable}
-use Rattle.script.specs.Words.{others}
-use Rattle.commands.specs.declared.arguments.Numbered.{Numbered}
+use Rattle.script.specs.Words.{listed}
 use Rattle.commands.specs.declared.command.Command.{Command}
 use Rattle.commands.specs.declared.command.Command.TheVariants as command
 use Rattle.commands.specs.declared.command.TableKind.{TableKind}
@@ -32,10 +30,10 @@ pub data Ask : Type 0 where
 
 abbrev pub asked : Command → Ask
 asked (command.Check t) = to_check t
-asked (command.Options line) = to_alter (others (option_map (λ x. x.now) line))
+asked (command.Options ws) = to_alter (listed ws)
 asked (command.Store p b) = to_make p b
-asked (command.Script line) = to_mark (others (option_map (λ x. x.now) line))
-asked (command.Record line) = to_record (others (option_map (λ x. x.now) line))
+asked (command.Script ws) = to_mark (listed ws)
+asked (command.Record ws) = to_record (listed ws)
 asked (command.Table k p b) = to_table k p b
 asked (command.Put n t) = to_put n t
 asked (command.Head n) = to_head n
@@ -95,8 +93,8 @@ Plain Table ws r = Tabled ws r
 Plain Head ws r = Made (One ws) to_head r
 Plain Read ws r = Made (One ws) to_read r
 Plain Tail ws r = Made (One ws) to_probe r
-Plain Open ws r = Made (Named ws) (λ (p : Numbered). to_open p.name.now p.number) r
-Plain Arrive ws r = Made (Named ws) (λ (p : Numbered). to_arrive p.name.now p.number) r
+Plain Open ws r = Made (Named ws) (λ p. to_open p.0.now p.1) r
+Plain Arrive ws r = Made (Named ws) (λ p. to_arrive p.0.now p.1) r
 
 abbrev pub For : Verb → List (List ℕ) → Option Text → Result Command Reason → Type 0
 For v ws (Some t) r = Texted v ws t r

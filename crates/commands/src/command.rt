@@ -1,14 +1,15 @@
 //! What the calls of a script ask for.
-ghost use Rattle.std.specs.Prelude.{◌≡◌};
-ghost use Rattle.std.specs.Option.{option_map};
+ghost use Rattle.std.specs.Prelude.{◌≡◌, MatchResult, None, Some};
+ghost use Rattle.commands.specs.Arguments.{KindOf};
 ghost use Rattle.commands.specs.Commands.{Asks, Plain, Tabled, Texted};
-ghost use Rattle.script.specs.Words.{others, words};
+ghost use Rattle.script.specs.declared.reason.Reason.TheVariants.{UnknownTable};
+ghost use Rattle.script.specs.Words.{listed, words};
 
-use crate::arguments::{kind_of, name_and_number, no_words, one_number, two_numbers};
-use crate::verb::{Verb, verb_of};
+use crate::arguments::{name_and_number, no_words, one_number, two_numbers};
+use crate::verb::Verb;
 use script::call::{Call, Text};
-use script::parts::first_word;
 use script::reason::Reason;
+use script::words::{Words, first_word};
 
 /// A kind of table.
 #[derive(Clone, Copy)]
@@ -17,14 +18,28 @@ pub enum TableKind {
     Log,
 }
 
+impl TryFrom<&[u8]> for TableKind {
+    type Error = Reason;
+
+    ghost try_from_gives = { λ w r. MatchResult r (λ k. KindOf w.now (Some k)) (λ e. KindOf w.now None × (e ≡ UnknownTable)) };
+
+    fn try_from(word: &[u8]) -> Result<TableKind, Reason> {
+        match word {
+            b"sorted" => Ok(TableKind::Sorted),
+            b"log" => Ok(TableKind::Log),
+            _ => Err(Reason::UnknownTable),
+        }
+    }
+}
+
 /// A line that the console performs.
 #[derive(Clone, Copy)]
 pub enum Command<'a> {
     Check(Text<'a>),
-    Options(Option<&'a [u8]>),
+    Options(Words<'a>),
     Store(u64, u64),
-    Script(Option<&'a [u8]>),
-    Record(Option<&'a [u8]>),
+    Script(Words<'a>),
+    Record(Words<'a>),
     Table(TableKind, u64, u64),
     Put(u64, Text<'a>),
     Head(u64),
@@ -36,12 +51,8 @@ pub enum Command<'a> {
 }
 
 /// What a line with a text asks for.
-fn with_text<'a>(
-    verb: Verb,
-    behind: Option<&'a [u8]>,
-    text: Text<'a>,
-) -> Result<Command<'a>, Reason>
-    ensures { Texted verb (others (option_map (λ x. x.now) behind.entry)) text.entry result }
+fn with_text<'a>(verb: Verb, behind: Words<'a>, text: Text<'a>) -> Result<Command<'a>, Reason>
+    ensures { Texted verb (listed behind.entry) text.entry result }
 {
     match verb {
         Verb::Check => {
@@ -58,23 +69,20 @@ fn with_text<'a>(
 }
 
 /// `table KIND PUTS BYTES`
-fn table<'a>(behind: Option<&'a [u8]>) -> Result<Command<'a>, Reason>
-    ensures { Tabled (others (option_map (λ x. x.now) behind.entry)) result }
+fn table<'a>(mut behind: Words<'a>) -> Result<Command<'a>, Reason>
+    ensures { Tabled (listed behind.entry) result }
 {
-    let Some(line) = behind else {
+    let Some(word) = behind.next() else {
         return Err(Reason::WrongWords);
     };
-    let parted = first_word(line);
-    let Some(kind) = kind_of(parted.front) else {
-        return Err(Reason::UnknownTable);
-    };
-    let (puts, bytes) = two_numbers(parted.behind)?;
+    let kind = TableKind::try_from(word)?;
+    let (puts, bytes) = two_numbers(behind)?;
     Ok(Command::Table(kind, puts, bytes))
 }
 
 /// What a line without a text asks for.
-fn without_text<'a>(verb: Verb, behind: Option<&'a [u8]>) -> Result<Command<'a>, Reason>
-    ensures { Plain verb (others (option_map (λ x. x.now) behind.entry)) result }
+fn without_text<'a>(verb: Verb, behind: Words<'a>) -> Result<Command<'a>, Reason>
+    ensures { Plain verb (listed behind.entry) result }
 {
     match verb {
         Verb::Check | Verb::Put | Verb::Load => Err(Reason::NoText),
@@ -90,12 +98,12 @@ fn without_text<'a>(verb: Verb, behind: Option<&'a [u8]>) -> Result<Command<'a>,
         Verb::Read => Ok(Command::Read(one_number(behind)?)),
         Verb::Tail => Ok(Command::Tail(one_number(behind)?)),
         Verb::Open => {
-            let at = name_and_number(behind)?;
-            Ok(Command::Open(at.name, at.number))
+            let (name, number) = name_and_number(behind)?;
+            Ok(Command::Open(name, number))
         }
         Verb::Arrive => {
-            let at = name_and_number(behind)?;
-            Ok(Command::Arrive(at.name, at.number))
+            let (name, number) = name_and_number(behind)?;
+            Ok(Command::Arrive(name, number))
         }
     }
 }
@@ -104,12 +112,10 @@ fn without_text<'a>(verb: Verb, behind: Option<&'a [u8]>) -> Result<Command<'a>,
 pub fn command_of<'a>(call: Call<'a>) -> Result<Command<'a>, Reason>
     ensures { Asks (words call.entry.words.now) call.entry.text result }
 {
-    let parted = first_word(call.words);
-    let Some(verb) = verb_of(parted.front) else {
-        return Err(Reason::UnknownCommand);
-    };
+    let (word, behind) = first_word(call.words);
+    let verb = Verb::try_from(word)?;
     match call.text {
-        Some(text) => with_text(verb, parted.behind, text),
-        None => without_text(verb, parted.behind),
+        Some(text) => with_text(verb, behind, text),
+        None => without_text(verb, behind),
     }
 }

@@ -1,12 +1,14 @@
 //! The options of a script and how a line changes them.
-ghost use Rattle.std.specs.Prelude.{◌≡◌};
-ghost use Rattle.std.specs.Option.{option_map};
-ghost use Rattle.commands.specs.Settings.{Assigns, Changed, Sets, ValueIs, defaults, with};
-ghost use Rattle.script.specs.Words.{others};
+ghost use Rattle.std.specs.Prelude.{◌≡◌, ◌≢◌, MatchResult};
+ghost use Rattle.commands.specs.Settings.{Assigns, Changed, Sets, defaults, key_name, with};
+ghost use Rattle.commands.specs.declared.options.Key.{Key as TheKey};
+ghost use Rattle.script.specs.declared.reason.Reason.TheVariants.{UnknownOption};
+ghost use Rattle.script.specs.Words.{listed};
 
 use crate::arguments::as_number;
-use script::parts::{after, is_word, part};
+use script::parts::split_once;
 use script::reason::Reason;
+use script::words::Words;
 
 /// The values that later calls use.
 #[derive(Clone, Copy)]
@@ -28,84 +30,66 @@ pub enum Key {
     MinSeq,
 }
 
-/// An option's name, and the word for its value.
-#[derive(Clone, Copy)]
-struct Assignment<'a> {
-    pub key: Key,
-    pub value: &'a [u8],
-}
-
 /// One option with its new value, of which only the least number may be none.
 #[derive(Clone, Copy)]
-pub struct Setting {
-    pub key: Key,
-    pub value: Option<u64>,
+pub enum Setting {
+    SstBatchSize(u64),
+    MaxWalBytesSize(u64),
+    MaxMemtableBytes(u64),
+    BlockSize(u64),
+    MinSeq(Option<u64>),
+}
+
+impl TryFrom<&[u8]> for Key {
+    type Error = Reason;
+
+    ghost try_from_gives = { λ w r. MatchResult r (λ k. w.now ≡ key_name k) (λ e. ((k : TheKey) → w.now ≢ key_name k) × (e ≡ UnknownOption)) };
+
+    fn try_from(name: &[u8]) -> Result<Key, Reason> {
+        match name {
+            b"sst_batch_size" => Ok(Key::SstBatchSize),
+            b"max_wal_bytes_size" => Ok(Key::MaxWalBytesSize),
+            b"max_memtable_bytes" => Ok(Key::MaxMemtableBytes),
+            b"block_size" => Ok(Key::BlockSize),
+            b"min_seq" => Ok(Key::MinSeq),
+            _ => Err(Reason::UnknownOption),
+        }
+    }
 }
 
 /// Parts a word into an option's name and its value.
-fn assignment_of(word: &[u8]) -> Option<Assignment<'_>>
+fn assignment_of(word: &[u8]) -> Result<(Key, &[u8]), Reason>
     ensures { Assigns word.now result }
 {
-    if let Some(value) = after(word, b"sst_batch_size=") {
-        return Some(Assignment {
-            key: Key::SstBatchSize,
-            value,
-        });
-    }
-    if let Some(value) = after(word, b"max_wal_bytes_size=") {
-        return Some(Assignment {
-            key: Key::MaxWalBytesSize,
-            value,
-        });
-    }
-    if let Some(value) = after(word, b"max_memtable_bytes=") {
-        return Some(Assignment {
-            key: Key::MaxMemtableBytes,
-            value,
-        });
-    }
-    if let Some(value) = after(word, b"block_size=") {
-        return Some(Assignment {
-            key: Key::BlockSize,
-            value,
-        });
-    }
-    if let Some(value) = after(word, b"min_seq=") {
-        return Some(Assignment {
-            key: Key::MinSeq,
-            value,
-        });
-    }
-    None
-}
-
-/// The value that a word gives an option.
-fn value_of(key: Key, word: &[u8]) -> Result<Option<u64>, Reason>
-    ensures { ValueIs key word.now result }
-{
-    match key {
-        Key::MinSeq if is_word(word, b"-") => Ok(None),
-        _ => Ok(Some(as_number(word)?)),
-    }
+    let Some((name, value)) = split_once(word, b'=') else {
+        return Err(Reason::UnknownOption);
+    };
+    Ok((Key::try_from(name)?, value))
 }
 
 /// Reads a word as a setting.
 fn setting_of(word: &[u8]) -> Result<Setting, Reason>
     ensures { Sets word.now result }
 {
-    let Some(assignment) = assignment_of(word) else {
-        return Err(Reason::UnknownOption);
-    };
-    let key = assignment.key;
-    let value = value_of(key, assignment.value)?;
-    Ok(Setting { key, value })
+    let (key, value) = assignment_of(word)?;
+    if let (Key::MinSeq, b"-") = (key, value) {
+        return Ok(Setting::MinSeq(None));
+    }
+    let number = as_number(value)?;
+    Ok(match key {
+        Key::SstBatchSize => Setting::SstBatchSize(number),
+        Key::MaxWalBytesSize => Setting::MaxWalBytesSize(number),
+        Key::MaxMemtableBytes => Setting::MaxMemtableBytes(number),
+        Key::BlockSize => Setting::BlockSize(number),
+        Key::MinSeq => Setting::MinSeq(Some(number)),
+    })
 }
 
-impl Options {
+impl Default for Options {
+    ghost is_default = { λ o. o ≡ defaults };
+
     /// The options at the beginning of a script.
-    pub fn new() -> Options
-        ensures { result ≡ defaults }
-    {
+    fn default() -> Options {
         Options {
             sst_batch_size: 4,
             max_wal_bytes_size: 65_536,
@@ -114,46 +98,38 @@ impl Options {
             min_seq: None,
         }
     }
+}
 
+impl Options {
     /// The options with one setting more.
     pub fn with(self, setting: Setting) -> Options
         ensures { result ≡ with self setting }
     {
-        let value = setting.value;
-        match setting.key {
-            Key::SstBatchSize => Options {
-                sst_batch_size: value.unwrap_or(self.sst_batch_size),
+        match setting {
+            Setting::SstBatchSize(sst_batch_size) => Options {
+                sst_batch_size,
                 ..self
             },
-            Key::MaxWalBytesSize => Options {
-                max_wal_bytes_size: value.unwrap_or(self.max_wal_bytes_size),
+            Setting::MaxWalBytesSize(max_wal_bytes_size) => Options {
+                max_wal_bytes_size,
                 ..self
             },
-            Key::MaxMemtableBytes => Options {
-                max_memtable_bytes: value.unwrap_or(self.max_memtable_bytes),
+            Setting::MaxMemtableBytes(max_memtable_bytes) => Options {
+                max_memtable_bytes,
                 ..self
             },
-            Key::BlockSize => Options {
-                block_size: value.unwrap_or(self.block_size),
-                ..self
-            },
-            Key::MinSeq => Options {
-                min_seq: value,
-                ..self
-            },
+            Setting::BlockSize(block_size) => Options { block_size, ..self },
+            Setting::MinSeq(min_seq) => Options { min_seq, ..self },
         }
     }
 
     /// The options that the words of a line change these to.
-    pub fn changed(self, words: Option<&[u8]>) -> Result<Options, Reason>
-        ensures { Changed (others (option_map (λ x. x.now) words.entry)) self result }
+    pub fn changed(self, words: Words<'_>) -> Result<Options, Reason>
+        ensures { Changed (listed words.entry) self result }
     {
-        let mut rest = words;
         let mut options = self;
-        while let Some(line) = rest {
-            let parted = part(line, b' ');
-            options = options.with(setting_of(parted.front)?);
-            rest = parted.behind;
+        for word in words {
+            options = options.with(setting_of(word)?);
         }
         Ok(options)
     }

@@ -1,7 +1,9 @@
 //! The first words of lines.
+ghost use Rattle.std.specs.Prelude.{◌≡◌, MatchResult, None, Some};
 ghost use Rattle.commands.specs.Verbs.{VerbOf};
+ghost use Rattle.script.specs.declared.reason.Reason.TheVariants.{UnknownCommand};
 
-use script::parts::is_word;
+use script::reason::Reason;
 
 /// What a line does.
 #[derive(Clone, Copy)]
@@ -21,37 +23,27 @@ pub enum Verb {
     Arrive,
 }
 
-/// What a first word stands for.
-pub fn verb_of(word: &[u8]) -> Option<Verb>
-    ensures { VerbOf word.now result }
-{
-    if is_word(word, b"check") {
-        Some(Verb::Check)
-    } else if is_word(word, b"options") {
-        Some(Verb::Options)
-    } else if is_word(word, b"store") {
-        Some(Verb::Store)
-    } else if is_word(word, b"script") {
-        Some(Verb::Script)
-    } else if is_word(word, b"record") {
-        Some(Verb::Record)
-    } else if is_word(word, b"table") {
-        Some(Verb::Table)
-    } else if is_word(word, b"put") {
-        Some(Verb::Put)
-    } else if is_word(word, b"head") {
-        Some(Verb::Head)
-    } else if is_word(word, b"read") {
-        Some(Verb::Read)
-    } else if is_word(word, b"load") {
-        Some(Verb::Load)
-    } else if is_word(word, b"tail") {
-        Some(Verb::Tail)
-    } else if is_word(word, b"open") {
-        Some(Verb::Open)
-    } else if is_word(word, b"arrive") {
-        Some(Verb::Arrive)
-    } else {
-        None
+impl TryFrom<&[u8]> for Verb {
+    type Error = Reason;
+
+    ghost try_from_gives = { λ w r. MatchResult r (λ v. VerbOf w.now (Some v)) (λ e. VerbOf w.now None × (e ≡ UnknownCommand)) };
+
+    fn try_from(word: &[u8]) -> Result<Verb, Reason> {
+        match word {
+            b"check" => Ok(Verb::Check),
+            b"options" => Ok(Verb::Options),
+            b"store" => Ok(Verb::Store),
+            b"script" => Ok(Verb::Script),
+            b"record" => Ok(Verb::Record),
+            b"table" => Ok(Verb::Table),
+            b"put" => Ok(Verb::Put),
+            b"head" => Ok(Verb::Head),
+            b"read" => Ok(Verb::Read),
+            b"load" => Ok(Verb::Load),
+            b"tail" => Ok(Verb::Tail),
+            b"open" => Ok(Verb::Open),
+            b"arrive" => Ok(Verb::Arrive),
+            _ => Err(Reason::UnknownCommand),
+        }
     }
 }

@@ -1,24 +1,42 @@
--- A text parted at its first mark.
-use Rattle.std.proofs.Common.{◌≡◌, ℕ, ◌+◌, ◌-◌, ◌<◌, List, [], ◌∷◌, ◌++◌, length, get_or, take, drop, Some, sym, ap, ◌∙◌, arith}
-use Rattle.std.proofs.lemmas.List.{append_assoc, drop_more, get_or-drop, get_or-take, length-drop, length-take-le, take-append-drop, take_rest}
-use Rattle.script.specs.Parts.{Ends, Parts}
+-- Texts that are free of a mark.
+use Rattle.std.proofs.Common.{◌≡◌, ℕ, zero, suc, Bool, true, false, not, ◌&&◌, eqb, List, [], ◌∷◌, ◌++◌, refl, arith, rules}
+use Rattle.std.proofs.lemmas.Bool.{both_ways, eq-eqb, false≢true}
+use Rattle.script.specs.Parts.{Free}
 
--- at the first mark
-pub parts_at : (mark : ℕ) (text : List ℕ) (i : ℕ) → i < length text → get_or text i 0 ≡ mark → ((k : ℕ) → k < i → get_or text k 0 ≡ mark → ⊥) → Parts mark text (take (i - 0) text) (Some (take (length text - (i + 1)) (drop (i + 1) text)))
-parts_at mark text i lt e below =
-    let z : i - 0 ≡ i = omega arith in
-    let len : length (take i text) ≡ i = length-take-le i text (omega arith) in
-    simp (z, take_rest) (record {
-      whole = sym (take-append-drop i text) ∙ ap (λ (t : List ℕ). take i text ++ t) (drop_more text i 0 lt ∙ ap (λ (b : ℕ). b ∷ drop (i + 1) text) e);
-      free = λ k h m. below k (omega arith) (sym (get_or-take i text k 0 (omega arith)) ∙ m);
-    })
+pub not_mark : (b mark : ℕ) → (b ≡ mark → ⊥) → eqb b mark ≡ false
+not_mark b mark h = search rules
 
--- at the last mark
-pub ends_at : (mark : ℕ) (text : List ℕ) (j : ℕ) → j < length text → get_or text j 0 ≡ mark → ((k : ℕ) → j < k → k < length text → get_or text k 0 ≡ mark → ⊥) → Ends mark text (Some (take (j - 0) text)) (take (length text - (j + 1)) (drop (j + 1) text))
-ends_at mark text j lt e above =
-    let z : j - 0 ≡ j = omega arith in
-    let long : length (drop (j + 1) text) ≡ length text - (j + 1) = length-drop (j + 1) text in
-    simp (z, take_rest) (record {
-      whole = sym (take-append-drop j text) ∙ ap (λ (t : List ℕ). take j text ++ t) (drop_more text j 0 lt ∙ ap (λ (b : ℕ). b ∷ drop (j + 1) text) e) ∙ sym (append_assoc (take j text) (mark ∷ []) (drop (j + 1) text));
-      free = λ k h m. above (j + 1 + k) (omega arith) (omega (arith, long)) (sym (get_or-drop (j + 1) text k 0) ∙ m);
-    })
+pub free_tail : (mark b : ℕ) (bs : List ℕ) → Free mark (b ∷ bs) → Free mark bs
+free_tail mark b bs f k h = f (suc k) (omega arith)
+
+pub free_head : (mark b : ℕ) (bs : List ℕ) → Free mark (b ∷ bs) → b ≡ mark → ⊥
+free_head mark b bs f = f 0 (omega arith)
+
+-- whether a text lacks the mark, for texts that are written out
+abbrev pub lacks : ℕ → List ℕ → Bool
+lacks mark [] = true
+lacks mark (b ∷ bs) = not (eqb b mark) && lacks mark bs
+
+not_met : (a b : Bool) → (not a && b) ≡ true → (a ≡ false) × (b ≡ true)
+not_met true b h = absurd (false≢true h)
+not_met false b h = (refl, h)
+
+pub free_from_lacks : (mark : ℕ) (text : List ℕ) → lacks mark text ≡ true → Free mark text
+free_from_lacks mark [] h k lt = absurd (omega arith)
+free_from_lacks mark (b ∷ bs) h zero lt = λ e. both_ways (eqb b mark) (not_met (eqb b mark) (lacks mark bs) h).0 (eq-eqb b mark e)
+free_from_lacks mark (b ∷ bs) h (suc k) lt = free_from_lacks mark bs (not_met (eqb b mark) (lacks mark bs) h).1 k (omega arith)
+
+pub not_free : (mark : ℕ) (f r : List ℕ) → Free mark (f ++ (mark ∷ r)) → ⊥
+not_free mark [] r h = h 0 (omega arith) refl
+not_free mark (b ∷ bs) r h = not_free mark bs r (free_tail mark b (bs ++ (mark ∷ r)) h)
+
+-- a text has one front before its first mark
+pub one_front : (mark : ℕ) (f g r s : List ℕ) → Free mark f → Free mark g → f ++ (mark ∷ r) ≡ g ++ (mark ∷ s) → f ≡ g
+one_front mark [] [] r s hf hg e = refl
+one_front mark [] (c ∷ cs) r s hf hg e = absurd (free_head mark c cs hg cc)
+one_front mark (b ∷ bs) [] r s hf hg e = absurd (free_head mark b bs hf cc)
+one_front mark (b ∷ bs) (c ∷ cs) r s hf hg e =
+    let h : b ≡ c = cc in
+    let t : bs ++ (mark ∷ r) ≡ cs ++ (mark ∷ s) = cc in
+    let q : bs ≡ cs = one_front mark bs cs r s (free_tail mark b bs hf) (free_tail mark c cs hg) t in
+    cc

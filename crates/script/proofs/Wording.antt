@@ -1,42 +1,23 @@
 -- The words of a line, one after another.
-use Rattle.std.proofs.Common.{◌≡◌, ℕ, zero, suc, ◌+◌, ◌<◌, true, false, cond, eqb, ◌⊎◌, List, [], ◌∷◌, ◌++◌, length, Some, None, Option, sym, refl, ap, ◌∙◌, subst, inl, inr, append-nil, arith, rules}
-use Rattle.std.proofs.lemmas.List.{length-append}
+use Rattle.std.proofs.Common.{◌≡◌, ℕ, zero, suc, true, false, cond, eqb, ◌⊎◌, List, [], ◌∷◌, ◌++◌, Some, sym, refl, ap, ◌∙◌, subst, inl, inr, arith}
 use Rattle.std.proofs.lemmas.Bool.{both_ways, cases_Bool, eq-eqb, eqb-true}
 use Rattle.script.specs.Lines.{begun}
+use Rattle.script.proofs.Parting.{free_head, free_tail, not_mark}
 use Rattle.script.specs.Parts.{Free, Parts}
-use Rattle.script.specs.Words.{Spaceless, Worded, others, spaced, words}
-
--- the bytes and the end of a line of which there may be nothing more
-abbrev pub extent : Option (List ℕ) → ℕ
-extent None = 0
-extent (Some line) = length line + 1
-
-not_space : (b : ℕ) → (b ≡ 32 → ⊥) → eqb b 32 ≡ false
-not_space b h = search rules
-
-free_tail : (b : ℕ) (bs : List ℕ) → Free 32 (b ∷ bs) → Free 32 bs
-free_tail b bs f k h = f (suc k) (omega arith)
-
-free_head : (b : ℕ) (bs : List ℕ) → Free 32 (b ∷ bs) → b ≡ 32 → ⊥
-free_head b bs f = f 0 (omega arith)
+use Rattle.script.specs.Words.{Spaceless, Worded, spaced, words}
 
 spaced_word : (front behind : List ℕ) → Free 32 front → words (front ++ (32 ∷ behind)) ≡ front ∷ words behind
 spaced_word [] behind f = refl
-spaced_word (b ∷ bs) behind f = rw (not_space b (free_head b bs f)) (ap (begun b) (spaced_word bs behind (free_tail b bs f)))
+spaced_word (b ∷ bs) behind f = rw (not_mark b 32 (free_head 32 b bs f)) (ap (begun b) (spaced_word bs behind (free_tail 32 b bs f)))
 
-last_word : (front : List ℕ) → Free 32 front → words front ≡ front ∷ []
+-- no space leaves one word
+pub last_word : (front : List ℕ) → Free 32 front → words front ≡ front ∷ []
 last_word [] f = refl
-last_word (b ∷ bs) f = rw (not_space b (free_head b bs f)) (ap (begun b) (last_word bs (free_tail b bs f)))
+last_word (b ∷ bs) f = rw (not_mark b 32 (free_head 32 b bs f)) (ap (begun b) (last_word bs (free_tail 32 b bs f)))
 
 -- the first word, and then those behind it
-pub words_first : (line front : List ℕ) (behind : Option (List ℕ)) → Parts 32 line front behind → words line ≡ front ∷ others behind
-words_first line front None p = ap words (p.whole ∙ append-nil front) ∙ last_word front p.free
-words_first line front (Some rest) p = ap words p.whole ∙ spaced_word front rest p.free
-
--- what is behind the first word is shorter
-pub extent_less : (line front : List ℕ) (behind : Option (List ℕ)) → Parts 32 line front behind → extent behind < extent (Some line)
-extent_less line front None p = omega arith
-extent_less line front (Some rest) p = omega (arith, ap length p.whole, length-append front (32 ∷ rest))
+pub words_first : (line front behind : List ℕ) → Parts 32 line front (Some behind) → words line ≡ front ∷ words behind
+words_first line front behind p = ap words p.whole ∙ spaced_word front behind p.free
 
 begun_some : (b : ℕ) (ls : List (List ℕ)) → (w : List ℕ) × (ws : List (List ℕ)) × (begun b ls ≡ w ∷ ws)
 begun_some b [] = (b ∷ [], [], refl)
@@ -63,7 +44,7 @@ space_first b bs e = rw (eq-eqb b 32 e) refl
 
 -- any other byte belongs to the first word
 byte_first : (b : ℕ) (bs : List ℕ) → (b ≡ 32 → ⊥) → words (b ∷ bs) ≡ begun b (words bs)
-byte_first b bs n = rw (not_space b n) refl
+byte_first b bs n = rw (not_mark b 32 n) refl
 
 spaced_first : (ws : List (List ℕ)) (w : List ℕ) (us : List (List ℕ)) → ws ≡ w ∷ us → spaced ([] ∷ ws) ≡ 32 ∷ spaced ws
 spaced_first ws w us e = subst (λ (t : List (List ℕ)). spaced ([] ∷ t) ≡ 32 ∷ spaced t) (sym e) refl

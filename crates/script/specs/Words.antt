@@ -1,5 +1,7 @@
 -- The words of a line.
 use Rattle.std.specs.Prelude.{◌≡◌, ℕ, cond, List, [], ◌∷◌, ◌++◌, Some, None, Option, ◌==◌}
+use Rattle.std.specs.Option.{option_map}
+use Rattle.script.specs.declared.words.Words.{Words}
 use Rattle.script.specs.Lines.{begun}
 use Rattle.script.specs.Parts.{Free}
 
@@ -12,6 +14,10 @@ words (b ∷ bs) = cond (b == 32) ([] ∷ words bs) (begun b (words bs))
 abbrev pub others : Option (List ℕ) → List (List ℕ)
 others None = []
 others (Some line) = words line
+
+-- the words that are still to come
+abbrev pub listed : Words → List (List ℕ)
+listed ws = others (option_map (λ x. x.now) ws.line)
 
 -- a space and each further word behind another
 abbrev pub more : List (List ℕ) → List ℕ

@@ -1,8 +1,10 @@
 //! Takes the calls of a script one by one.
-ghost use Rattle.std.specs.Prelude.{◌≡◌};
+ghost use Rattle.std.specs.Prelude.{MatchResult};
 ghost use Rattle.script.specs.Calls.{Calls, Shorter, Splits};
+ghost use Rattle.script.specs.Texts.{Is, Lacks};
 
-use crate::parts::{after, is_word, part_last};
+use crate::hex::{TextFault, decode};
+use crate::parts::rsplit_once;
 use crate::reason::{Reason, ScriptError};
 use crate::script::Script;
 
@@ -29,37 +31,34 @@ pub struct Call<'a> {
     pub text: Option<Text<'a>>,
 }
 
-/// A line's words but for its text, and what its last word is.
-#[derive(Clone, Copy)]
-struct Split<'a> {
-    pub words: &'a [u8],
-    pub last: Last<'a>,
+impl<'a> Text<'a> {
+    /// The bytes that the text is. Those of digits are put into the buffer.
+    pub fn bytes<'b>(self, buffer: &'b mut Vec<u8>) -> Result<&'b [u8], TextFault>
+    where
+        'a: 'b,
+        ensures { MatchResult result (λ b. Is self.entry b.now) (λ f. Lacks self.entry f) }
+    {
+        match self {
+            Text::Lines(bytes) => Ok(bytes),
+            Text::Hex(digits) => {
+                decode(digits, buffer)?;
+                Ok(buffer.as_slice())
+            }
+        }
+    }
 }
 
-/// Puts the text of a line aside.
-fn split_text(line: &[u8]) -> Split<'_>
-    ensures { Splits line.now result.words.now result.last }
+/// A line's words but for its text, and what its last word is.
+fn split_text(line: &[u8]) -> (&[u8], Last<'_>)
+    ensures { Splits line.now result.0.now result.1 }
 {
-    let ended = part_last(line, b' ');
-    let ahead: &[u8] = match ended.before {
-        Some(before) => before,
-        None => &[],
-    };
-    if is_word(ended.last, b"<<") {
-        return Split {
-            words: ahead,
-            last: Last::Here,
-        };
+    let (ahead, last) = rsplit_once(line, b' ').unwrap_or((&[], line));
+    if let b"<<" = last {
+        return (ahead, Last::Here);
     }
-    match after(ended.last, b"hex:") {
-        Some(digits) => Split {
-            words: ahead,
-            last: Last::Digits(digits),
-        },
-        None => Split {
-            words: line,
-            last: Last::Word,
-        },
+    match last.strip_prefix(b"hex:") {
+        Some(digits) => (ahead, Last::Digits(digits)),
+        None => (line, Last::Word),
     }
 }
 
@@ -73,9 +72,8 @@ impl<'a> Script<'a> {
             return Ok(None);
         };
         let line = found.number;
-        let split = split_text(found.bytes);
-        let words = split.words;
-        let text = match split.last {
+        let (words, last) = split_text(found.bytes);
+        let text = match last {
             Last::Here => match self.text() {
                 Some(text) => Some(Text::Lines(text)),
                 None => return Err(ScriptError {

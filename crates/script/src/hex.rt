@@ -1,6 +1,9 @@
 //! Reads bytes from hexadecimal pairs.
 ghost use Rattle.std.specs.Prelude.{◌≡◌, ◌<◌, true, MatchBool};
 ghost use Rattle.script.specs.Hexadecimal.{Decodes, Paired, digit, is_digit};
+ghost use Rattle.script.specs.declared.hex.TextFault.TheVariants.{NoMemory as HadNoMemory};
+
+use std::alloc::AllocError;
 
 /// Why the bytes of a text cannot be had.
 #[derive(Clone, Copy)]
@@ -9,10 +12,18 @@ pub enum TextFault {
     NoMemory,
 }
 
+impl From<AllocError> for TextFault {
+    ghost from_gives = { λ _ r. r ≡ HadNoMemory };
+
+    fn from(_e: AllocError) -> TextFault {
+        TextFault::NoMemory
+    }
+}
+
 fn is_digit(b: u8) -> bool
     ensures { result ≡ is_digit b }
 {
-    (b >= b'0' && b <= b'9') || (b >= b'a' && b <= b'f')
+    matches!(b, b'0'..=b'9' | b'a'..=b'f')
 }
 
 /// The number that a digit stands for.
@@ -27,15 +38,7 @@ fn worth(b: u8) -> u8
 fn is_paired(digits: &[u8]) -> bool
     ensures { MatchBool result (Paired digits.now) (Paired digits.now → ⊥) }
 {
-    if digits.len() % 2 != 0 {
-        return false;
-    }
-    for b in digits {
-        if !is_digit(*b) {
-            return false;
-        }
-    }
-    true
+    digits.len() % 2 == 0 && digits.iter().all(|b| is_digit(*b))
 }
 
 /// Puts the bytes that hexadecimal digits stand for into `bytes`, in place of what it held.
@@ -46,12 +49,9 @@ pub fn decode(digits: &[u8], bytes: &mut Vec<u8>) -> Result<(), TextFault>
     if !is_paired(digits) {
         return Err(TextFault::NotHex);
     }
-    let count = digits.len() / 2;
-    if bytes.reserve(count).is_err() {
-        return Err(TextFault::NoMemory);
-    }
-    for i in 0..count {
-        bytes.push_reserved(worth(digits[2 * i]) * 16 + worth(digits[2 * i + 1]));
+    bytes.reserve(digits.len() / 2)?;
+    for pair in digits.chunks_exact(2) {
+        bytes.push_reserved(worth(pair[0]) * 16 + worth(pair[1]));
     }
     Ok(())
 }

@@ -7,3 +7,4 @@ pub mod number;
 pub mod parts;
 pub mod reason;
 pub mod script;
+pub mod words;

@@ -1,8 +1,10 @@
 //! Reads a word as a decimal number.
-ghost use Rattle.std.specs.Prelude.{◌≡◌, ◌+◌, ◌-◌, ◌*◌, ◌^◌, ◌<◌, ◌≤◌, MatchBool};
+ghost use Rattle.std.specs.Prelude.{◌≡◌, ◌+◌, ◌-◌, ◌*◌, ◌^◌, ◌<◌, ◌≤◌, MatchBool, Some};
 ghost use Rattle.std.specs.Option.{SomeIff};
 ghost use Rattle.std.specs.Int.{IsInRange};
-ghost use Rattle.script.specs.Numerals.{Digits, Numeral, Reads, fault};
+ghost use Rattle.script.specs.Numerals.{Numeral, Reads, fault};
+
+use std::fmt;
 
 /// Why a word is no number that the script can use.
 #[derive(Clone, Copy)]
@@ -11,36 +13,25 @@ pub enum NumberFault {
     TooLarge,
 }
 
-impl NumberFault {
-    /// The fault in plain words.
-    pub fn words(self) -> &'static str
-        ensures { result.now ≡ fault self }
-    {
-        match self {
+impl fmt::Display for NumberFault {
+    ghost output = { λ f. Some (fault f) };
+
+    fn fmt<W: fmt::Write>(&self, f: &mut fmt::Formatter<W>) -> fmt::Result {
+        f.write_str(match self {
             NumberFault::NotNumber => "not a number",
             NumberFault::TooLarge => "number too large",
-        }
+        })
     }
 }
 
-fn all_digits(word: &[u8]) -> bool
-    ensures { MatchBool result (Digits word.now) (Digits word.now → ⊥) }
-{
-    for b in word {
-        if !b.is_ascii_digit() {
-            return false;
-        }
-    }
-    true
-}
-
+/// Whether a word is of digits, with no zero in front of others.
 fn is_numeral(word: &[u8]) -> bool
     ensures { MatchBool result (Numeral word.now) (Numeral word.now → ⊥) }
 {
-    if word.is_empty() || (word[0] == b'0' && word.len() > 1) {
-        return false;
+    match word {
+        [] | [b'0', _, ..] => false,
+        _ => word.iter().all(|b| b.is_ascii_digit()),
     }
-    all_digits(word)
 }
 
 /// The number whose digits are those of `n` and then `digit`.

@@ -1,6 +1,7 @@
 //! What can be wrong with a script.
 ghost use Rattle.std.specs.Prelude.{◌≡◌, Some};
 ghost use Rattle.script.specs.Reasons.{complaint, reason};
+ghost use Rattle.script.specs.declared.reason.Reason.TheVariants.{Number as IsNumber};
 
 use crate::number::NumberFault;
 use std::fmt;
@@ -32,12 +33,19 @@ pub struct ScriptError {
     pub reason: Reason,
 }
 
-impl Reason {
-    /// The reason in plain words.
-    pub fn words(self) -> &'static str
-        ensures { result.now ≡ reason self }
-    {
-        match self {
+impl From<NumberFault> for Reason {
+    ghost from_gives = { λ f r. r ≡ IsNumber f };
+
+    fn from(fault: NumberFault) -> Reason {
+        Reason::Number(fault)
+    }
+}
+
+impl fmt::Display for Reason {
+    ghost output = { λ x. Some (reason x) };
+
+    fn fmt<W: fmt::Write>(&self, f: &mut fmt::Formatter<W>) -> fmt::Result {
+        let words = match self {
             Reason::UnknownCommand => "unknown command",
             Reason::WrongWords => "wrong number of words",
             Reason::NoText => "no text",
@@ -52,17 +60,9 @@ impl Reason {
             Reason::NotName => "not a name",
             Reason::NameTaken => "name taken",
             Reason::UnknownStation => "unknown station",
-            Reason::Number(fault) => fault.words(),
-        }
-    }
-}
-
-impl fmt::Display for Reason {
-    ghost output = { λ x. Some (reason x) };
-
-    fn fmt<W: fmt::Write>(&self, f: &mut fmt::Formatter<W>) -> fmt::Result {
-        let words = self.words();
-        write!(f, "{words}")
+            Reason::Number(number) => return write!(f, "{number}"),
+        };
+        f.write_str(words)
     }
 }
 

@@ -1,4 +1,2 @@
-pub mod Marking
 pub mod Listed
 pub mod Ticks
-pub mod Threes

@@ -1,5 +1,5 @@
-pub mod Marks
 pub mod Records
 pub mod Settings
 pub mod Loading
 pub mod Replaying
+pub mod Tables

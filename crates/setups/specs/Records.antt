@@ -4,14 +4,9 @@ use Rattle.std.specs.Int.Signed.{mag}
 use Rattle.std.specs.Fmt.{signed_decimal}
 use Rattle.script.specs.declared.reason.Reason.TheVariants.{WrongWords, NotTick}
 use Rattle.commands.specs.Arguments.{NumberIs}
-use Rattle.setups.specs.declared.records.Three.{Three}
-use Rattle.setups.specs.declared.stop.Stop.{Stop}
-use Rattle.setups.specs.declared.stop.Stop.TheVariants.{Script, NoMemory}
+use Rattle.store_setup.specs.declared.stop.Stop.{Stop}
+use Rattle.store_setup.specs.declared.stop.Stop.TheVariants.{Script, NoMemory}
 use Rattle.wal_init.specs.declared.record.ManifestRecord.{ManifestRecord}
-
-abbrev pub ThreeWords : List (List ℕ) → Option Three → Type 0
-ThreeWords ws (Some t) = ws ≡ t.first.now ∷ t.second.now ∷ t.third.now ∷ []
-ThreeWords ws None = (a b c : List ℕ) → ws ≢ a ∷ b ∷ c ∷ []
 
 -- the tick of 64 bits that is written so
 abbrev pub TickOf : List ℕ → Option ℤ → Type 0

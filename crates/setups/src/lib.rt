@@ -1,9 +1,8 @@
-//! What the lines of a script set up: the store, the record, and tables.
+//! What the lines of a script set up: the record, the settings and tables.
 #![tactic(auto)]
 
+pub mod fresh_table;
 pub mod loads;
-pub mod marks;
 pub mod records;
 pub mod replays;
 pub mod settings;
-pub mod stop;

@@ -4,11 +4,9 @@ ghost use Rattle.mem_table.specs.Meaning.{empty};
 ghost use Rattle.setups.specs.Loading.{Listing};
 
 use crate::settings::Settings;
-use commands::command::TableKind;
 use loader::{LoadFault, Loaded, list, load};
 use mem_table::Table;
 use std::alloc::{AllocError, Global};
-use tables::{ArrivalLog, SortedTable};
 
 /// Loads a text into a table, and writes the rows that it then holds.
 fn load_into<T: Table>(
@@ -35,16 +33,6 @@ pub fn load_fresh(
 ) -> Result<Result<Loaded, LoadFault>, AllocError>
     ensures { IfOk result (Listing (empty settings.puts settings.bytes) text.now lines.new.items) }
 {
-    let puts = settings.puts;
-    let bytes = settings.bytes;
-    match settings.table {
-        TableKind::Sorted => {
-            let mut table = SortedTable::new(heap, puts, bytes)?;
-            load_into(&mut table, text, lines)
-        }
-        TableKind::Log => {
-            let mut table = ArrivalLog::new(heap, puts, bytes)?;
-            load_into(&mut table, text, lines)
-        }
-    }
+    let mut table = settings.fresh_table(heap)?;
+    load_into(&mut table, text, lines)
 }

@@ -5,12 +5,10 @@ ghost use Rattle.wal_replay.specs.Replays.{meaning};
 ghost use Rattle.setups.specs.Replaying.{Replaying};
 
 use crate::settings::Settings;
-use commands::command::TableKind;
 use loader::list;
 use mem_table::Table;
 use std::alloc::{AllocError, Global};
 use store::Store;
-use tables::{ArrivalLog, SortedTable};
 use wal_replay::{ReplayFault, ReplayedMemtable, WalReplayIterator};
 
 /// A table that was handed out: its rows, the sum of their sizes, and what goes with it.
@@ -54,16 +52,6 @@ pub fn next_fresh<S: Store>(
 ) -> Result<Result<Option<Handed>, ReplayFault>, AllocError>
     ensures { IfOk result (Replaying (S.Store.means store.old) (S.Store.means store.new) (meaning replay.old) (meaning replay.new) (empty settings.puts settings.bytes) buffer.old buffer.new lines.new.items) }
 {
-    let puts = settings.puts;
-    let bytes = settings.bytes;
-    match settings.table {
-        TableKind::Sorted => {
-            let mut table = SortedTable::new(heap, puts, bytes)?;
-            next_into(replay, store, &mut table, buffer, lines)
-        }
-        TableKind::Log => {
-            let mut table = ArrivalLog::new(heap, puts, bytes)?;
-            next_into(replay, store, &mut table, buffer, lines)
-        }
-    }
+    let mut table = settings.fresh_table(heap)?;
+    next_into(replay, store, &mut table, buffer, lines)
 }

@@ -1,9 +1,14 @@
 //! The values that the lines of a script set for later calls.
-ghost use Rattle.std.specs.Prelude.{◌≡◌};
+ghost use Rattle.std.specs.Prelude.{◌≡◌, IfOk};
+ghost use Rattle.mem_table.specs.Meaning.{empty};
 ghost use Rattle.setups.specs.Settings.{begin, opening_options};
+ghost use Rattle.setups.specs.Tables.{table_means};
 
+use crate::fresh_table::AnyTable;
 use commands::command::TableKind;
 use commands::options::Options;
+use std::alloc::{AllocError, Global};
+use tables::{ArrivalLog, SortedTable};
 use wal_init::ManifestRecord;
 
 /// The options, the manifest's record, and the kind and room of tables.
@@ -16,13 +21,13 @@ pub struct Settings {
     pub bytes: usize,
 }
 
-impl Settings {
+impl Default for Settings {
+    ghost is_default = { λ s. s ≡ begin };
+
     /// The settings at the beginning of a script.
-    pub fn new() -> Settings
-        ensures { result ≡ begin }
-    {
+    fn default() -> Settings {
         Settings {
-            options: Options::new(),
+            options: Options::default(),
             manifest: ManifestRecord {
                 replay_after_wal_id: 0,
                 last_l0_seq: 0,
@@ -33,12 +38,14 @@ impl Settings {
             bytes: 16_777_216,
         }
     }
+}
+
+impl From<Settings> for wal_init::Options {
+    ghost from_gives = { λ s r. r ≡ opening_options s };
 
     /// The options as an opening takes them.
-    pub fn opening_options(self) -> wal_init::Options
-        ensures { result ≡ opening_options self }
-    {
-        let options = self.options;
+    fn from(settings: Settings) -> wal_init::Options {
+        let options = settings.options;
         wal_init::Options {
             sst_batch_size: options.sst_batch_size as usize,
             max_wal_bytes_size: options.max_wal_bytes_size,
@@ -46,5 +53,23 @@ impl Settings {
             block_size: options.block_size,
             min_seq: options.min_seq,
         }
+    }
+}
+
+impl Settings {
+    /// A fresh table of the kind and with the room that are set.
+    pub fn fresh_table(self, heap: Global) -> Result<AnyTable, AllocError>
+        ensures { IfOk result (λ t. table_means t ≡ empty self.puts self.bytes) }
+    {
+        let Settings {
+            table,
+            puts,
+            bytes,
+            ..
+        } = self;
+        Ok(match table {
+            TableKind::Sorted => AnyTable::Sorted(SortedTable::new(heap, puts, bytes)?),
+            TableKind::Log => AnyTable::Log(ArrivalLog::new(heap, puts, bytes)?),
+        })
     }
 }

@@ -4,7 +4,6 @@ ghost use Rattle.stations.specs.Stations.{Finds, ended_so, no_tables, one_more};
 
 use super::Name;
 use causes::Refusal;
-use script::parts::is_word;
 use wal_init::Opening;
 
 /// A station: its name, and the journal that it has opened.
@@ -23,6 +22,7 @@ pub struct Tables {
 }
 
 /// How a replay ended.
+// Kept: `Option<Result<(), Refusal>>` would be no plainer, since its `None` does not say that the replay can go on.
 #[derive(Clone, Copy)]
 pub enum Ending {
     /// It can still go on.
@@ -68,10 +68,7 @@ impl Tables {
 pub fn find(stations: &[Station], name: &[u8]) -> Option<usize>
     ensures { Finds stations.now name.now result }
 {
-    for (i, station) in stations.iter().enumerate() {
-        if is_word(station.name.as_bytes(), name) {
-            return Some(i);
-        }
-    }
-    None
+    stations
+        .iter()
+        .position(|station| station.name.as_bytes() == name)
 }

@@ -5,7 +5,7 @@ ghost use Rattle.script.specs.Lines.{Line, Stop, idle};
 ghost use Rattle.script.specs.Scripts.{Finds, Gives, Takes};
 
 use super::Script;
-use crate::parts::part;
+use crate::parts::split_once;
 
 /// The line of a call, and its number from 1.
 #[derive(Clone, Copy)]
@@ -14,44 +14,25 @@ pub(crate) struct CallLine<'a> {
     pub bytes: &'a [u8],
 }
 
-/// A text's first line, without its end, and what follows.
-#[derive(Clone, Copy)]
-struct Cut<'a> {
-    line: &'a [u8],
-    rest: &'a [u8],
-}
-
 /// Whether the line is skipped: empty, or a remark.
 fn is_idle(line: &[u8]) -> bool
     ensures { result ≡ idle line.now }
 {
-    match line {
-        [] => true,
-        [first, ..] => *first == b'#',
-    }
+    matches!(line, [] | [b'#', ..])
 }
 
 /// Whether the line is a lone dot, which ends a text.
 fn is_stop(line: &[u8]) -> bool
     ensures { Decides result (Stop line.now) }
 {
-    line.len() == 1 && line[0] == b'.'
+    matches!(line, b".")
 }
 
-fn first_line(text: &[u8]) -> Cut<'_>
-    ensures { 0 < length text.now → Line text.now result.line.now result.rest.now }
+/// A text's first line, without its end, and what follows.
+fn first_line(text: &[u8]) -> (&[u8], &[u8])
+    ensures { 0 < length text.now → Line text.now result.0.now result.1.now }
 {
-    let parted = part(text, b'\n');
-    match parted.behind {
-        Some(rest) => Cut {
-            line: parted.front,
-            rest,
-        },
-        None => Cut {
-            line: parted.front,
-            rest: &[],
-        },
-    }
+    split_once(text, b'\n').unwrap_or((text, &[]))
 }
 
 impl<'a> Script<'a> {
@@ -73,10 +54,10 @@ impl<'a> Script<'a> {
         if self.rest.is_empty() {
             return None;
         }
-        let cut = first_line(self.rest);
+        let (line, rest) = first_line(self.rest);
         self.line += 1;
-        self.rest = cut.rest;
-        Some(cut.line)
+        self.rest = rest;
+        Some(line)
     }
 
     /// Takes lines up to the first that is a call's.

@@ -1,14 +1,10 @@
-use Rattle.std.proofs.Common.{◌<◌, length, sym, refl, ◌∙◌, arith, below_more}
-use Rattle.std.proofs.lemmas.Bool.{false≢true}
-use Rattle.stations.proofs.Naming.{name_at}
+use Rattle.std.proofs.Common.{rules}
+use borrow.Author.Tests.{tests}
+use Rattle.std.proofs.lemmas.Iterator.{IsFirst-from_position, YieldsList-from_slice}
+use Rattle.stations.proofs.Naming.{Has, Lacks, found}
 use Rattle.stations.proofs.station.find.Goals as goal
 
-pub returns-then-is_word : goal.returns-then-is_word
-returns-then-is_word c =
-    let l : c.loop-i.i < length c.args.stations.now = omega arith in
-    (l, name_at _ _ _ l c.index-stations-i.is ∙ sym c.as_bytes.ensures ∙ c.if-is_word.ensures.0 refl)
-
-pub loop-i-preserved : goal.loop-i-preserved
-loop-i-preserved c =
-    let l : c.loop-i.i < length c.args.stations.now = omega arith in
-    below_more _ _ c.loop-i.invariant (λ e. false≢true (c.if-is_word.ensures.1 (c.as_bytes.ensures ∙ sym (name_at _ _ _ l c.index-stations-i.is) ∙ e)))
+pub returns : goal.returns
+returns c =
+    let w = c.args.name.now in
+    found c.args.stations.now w c.position.result (IsFirst-from_position _ _ _ (Has w) (Lacks w) c.position.ensures.ran (YieldsList-from_slice c.args.stations.now cc) (λ x q k. search (rules, tests)) (λ x q k. search (rules, tests)))

@@ -11,23 +11,23 @@ returns-in-None c = record {
   calls = record {
     found = c.in-Some.found;
     behind = c.call_line.new.self;
-    words = c.split_text-split.result.words.now;
+    words = c.split_text.result.0.now;
     finds = c.in-Some.ensures;
     error = refl;
-    splits = subst (λ (l : Last). Splits c.in-Some.found.bytes.now c.split_text-split.result.words.now l) c.in-Here.is c.split_text-split.ensures;
+    splits = subst (λ (l : Last). Splits c.in-Some.found.bytes.now c.split_text.result.0.now l) c.in-Here.is c.split_text.ensures;
     gives = c.in-None.ensures;
   };
 }
 
-taken : (c : goal.Joined-split) → Taken c.args.self.now (record { line = c.in-Some.found.number; words = c.split_text-split.result.words; text = c.match-split.text }) c.match-split.self
+taken : (c : goal.Joined-last) → Taken c.args.self.now (record { line = c.in-Some.found.number; words = c.split_text.result.0; text = c.match-last.text }) c.match-last.self
 taken c = record {
   found = c.in-Some.found;
   behind = c.call_line.new.self;
-  last = c.split_text-split.result.last;
+  last = c.split_text.result.1;
   finds = c.in-Some.ensures;
   number = refl;
-  splits = c.split_text-split.ensures;
-  text = elim c.match-split.branch [
+  splits = c.split_text.ensures;
+  text = elim c.match-last.branch [
     | in-Here+in-Some-text w ↦ texts_lines _ _ _ _ _ _ w.in-Here.is w.text-is w.self-is w.in-Some-text.ensures
     | in-Digits w ↦ texts_hex _ _ _ _ _ w.in-Digits.is w.text-is w.self-is
     | in-Word w ↦ texts_none _ _ _ _ w.in-Word.is w.text-is w.self-is

@@ -11,5 +11,5 @@ returns-then-is_empty c =
 pub invariant_of-self : goal.invariant_of-self
 invariant_of-self c =
     let some : 0 < length c.args.self.now.rest.now = search rules in
-    let shorter = line_shorter _ _ _ (c.first_line-cut.ensures some) in
+    let shorter = line_shorter _ _ _ (c.first_line.ensures some) in
     record { fits = omega (arith, shorter, c.args.self.now.fits) }
