@@ -1,3 +1,0 @@
-pub mod Asking
-pub mod Marking
-pub mod Setting

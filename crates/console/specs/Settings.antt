@@ -6,14 +6,8 @@ use Rattle.console.specs.declared.options.Options.{Options}
 use Rattle.console.specs.declared.options.Setting.{Setting}
 use Rattle.console.specs.declared.options.Setting.TheVariants.{BlockSize}
 use Rattle.script.specs.declared.reason.Reason.{Reason}
-use Rattle.script.specs.declared.reason.Reason.TheVariants.{UnknownOption, Number}
-use Rattle.script.specs.declared.number.NumberFault.{NumberFault}
-use Rattle.script.specs.Numerals.{Reads}
-
--- the number that a word is
-abbrev pub NumberIs : List ℕ → Result ℕ Reason → Type 0
-NumberIs w (Ok n) = Reads w (Ok n)
-NumberIs w (Err e) = (f : NumberFault) × (e ≡ Number f) × Reads w (Err f)
+use Rattle.script.specs.declared.reason.Reason.TheVariants.{UnknownOption}
+use Rattle.commands.specs.Arguments.{NumberIs}
 
 -- what a word sets: an option's name, `=` and its number
 abbrev pub Sets : List ℕ → Result Setting Reason → Type 0

@@ -1,20 +1,19 @@
 //! Performs the calls of a script.
-ghost use Rattle.std.specs.Prelude.{◌≡◌, [], IfOk};
+ghost use Rattle.std.specs.Prelude.{◌≡◌, IfOk};
 ghost use Rattle.console.specs.Sessions.{Begins, Does, Performs, closing};
 
 use crate::command::{Command, command_of};
 use crate::options::Options;
-use crate::setup::fresh;
 use answers::account::Account;
 use answers::answer::Answer;
 use script::call::Call;
-use script::reason::Reason;
 use std::alloc::{AllocError, Global};
-use store::{FaultScript, Mark, MemoryStore, Store};
+use store::MOST_BYTES;
+use store_setup::setup::StoreSetup;
+use store_setup::stop::Stop;
 
 mod calls;
 mod output;
-mod setting;
 
 /// What the calls of a script work on.
 #[derive(Drop)]
@@ -23,25 +22,8 @@ pub struct Session {
     options: Options,
     account: Account,
     buffer: Vec<u8>,
-    page: [u8; 16384],
-    begun: bool,
-    places: usize,
-    bytes: usize,
-    marks: Vec<Mark>,
-    store: FaultScript<MemoryStore>,
-}
-
-/// Why a call was not performed.
-#[derive(Clone, Copy)]
-pub enum Stop {
-    Script(Reason),
-    NoMemory,
-}
-
-impl From<AllocError> for Stop {
-    fn from(_e: AllocError) -> Stop {
-        Stop::NoMemory
-    }
+    page: [u8; MOST_BYTES],
+    setup: StoreSetup,
 }
 
 impl Session {
@@ -49,18 +31,14 @@ impl Session {
     pub fn new(heap: Global) -> Result<Session, AllocError>
         ensures { IfOk result Begins }
     {
-        let store = fresh(heap, 1024, 16_777_216, &[])?;
+        let setup = StoreSetup::new(heap)?;
         Ok(Session {
             heap,
-            options: Options::new(),
+            options: Options::default(),
             account: Account::new(),
             buffer: Vec::new(heap),
-            page: [0; 16384],
-            begun: false,
-            places: 1024,
-            bytes: 16_777_216,
-            marks: Vec::new(heap),
-            store,
+            page: [0; MOST_BYTES],
+            setup,
         })
     }
 
@@ -68,9 +46,7 @@ impl Session {
     pub fn account(&self) -> Account
         ensures { result ≡ closing self.now }
     {
-        let (places, bytes) = self.store.inner().room();
-        let files = self.places.saturating_sub(places);
-        let taken = self.bytes.saturating_sub(bytes);
+        let (files, taken) = self.setup.taken();
         self.account.holding(files, taken)
     }
 
@@ -85,10 +61,8 @@ impl Session {
     pub fn perform(&mut self, call: Call<'_>) -> Result<Option<Answer>, Stop>
         ensures { Performs self.old call.entry result self.new }
     {
-        match command_of(call) {
-            Ok(command) => self.obey(command),
-            Err(reason) => Err(Stop::Script(reason)),
-        }
+        let command = command_of(call)?;
+        self.obey(command)
     }
 
     /// Performs a command.
@@ -100,10 +74,16 @@ impl Session {
                 self.options = self.options.changed(changes);
                 Ok(None)
             }
-            Command::Store(places, bytes) => self.set_store(places, bytes),
-            Command::Script(words) => self.set_marks(words),
-            Command::Check(text) => self.check(text),
-            Command::Put(id, text) => self.put(id, text),
+            Command::Store(places, bytes) => {
+                self.setup.set_room(places, bytes)?;
+                Ok(None)
+            }
+            Command::Script(words) => {
+                self.setup.set_marks(words)?;
+                Ok(None)
+            }
+            Command::Check(text) => self.check(text).map(Some),
+            Command::Put(id, text) => self.put(id, text).map(Some),
             Command::Head(id) => Ok(Some(self.head(id))),
             Command::Read(id) => Ok(Some(self.read(id))),
         }

@@ -1,7 +1,11 @@
 //! Why a run ends early.
-use script::reason::{Reason, ScriptError};
+ghost use Rattle.std.specs.Prelude.{◌≡◌};
+ghost use Rattle.running.specs.Failures.{failed};
+
+use script::reason::ScriptError;
 use std::alloc::AllocError;
 use std::{fmt, io};
+use store_setup::stop::Stop;
 
 /// Why a run ends before the end of its script.
 #[derive(Drop)]
@@ -9,6 +13,18 @@ pub enum Failure {
     Script(ScriptError),
     NoMemory,
     Io(io::Error),
+}
+
+impl Failure {
+    /// The line of this number was not performed.
+    pub fn at_line(line: u64, stop: Stop) -> Failure
+        ensures { result ≡ failed line stop }
+    {
+        match stop {
+            Stop::Script(reason) => Failure::Script(ScriptError { line, reason }),
+            Stop::NoMemory => Failure::NoMemory,
+        }
+    }
 }
 
 impl From<ScriptError> for Failure {

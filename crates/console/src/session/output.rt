@@ -1,25 +1,22 @@
 //! What a session prints of its calls.
-use super::{Session, Stop};
+use super::Session;
 use answers::answer::Answer;
 use printing::page::put_page;
 use running::{Console, Failure};
 use script::call::Call;
-use script::reason::ScriptError;
 use std::alloc::{AllocError, Global};
 use std::io::Write;
 
 impl Session {
     /// Prints the text of a file that was read.
     fn print_page<W: Write>(&self, answer: Answer, out: &mut W) -> Result<(), Failure> {
-        let Answer::Read(_, Ok(length)) = answer else {
-            return Ok(());
-        };
-        let Some(text) = self.page.get(0..length) else {
-            return Ok(());
-        };
-        let mut lines = Vec::new(self.heap);
-        put_page(text, &mut lines)?;
-        out.write_all(lines.as_slice())?;
+        if let Answer::Read(_, Ok(length)) = answer
+            && let Some(text) = self.page.get(0..length)
+        {
+            let mut lines = Vec::new(self.heap);
+            put_page(text, &mut lines)?;
+            out.write_all(lines.as_slice())?;
+        }
         Ok(())
     }
 }
@@ -30,18 +27,14 @@ impl Console for Session {
     }
 
     fn answer<W: Write>(&mut self, call: Call<'_>, out: &mut W) -> Result<(), Failure> {
-        match self.perform(call) {
-            Ok(Some(answer)) => {
-                writeln!(out, "{answer}")?;
-                self.print_page(answer, out)
-            }
-            Ok(None) => Ok(()),
-            Err(Stop::Script(reason)) => Err(Failure::Script(ScriptError {
-                line: call.line,
-                reason,
-            })),
-            Err(Stop::NoMemory) => Err(Failure::NoMemory),
+        let answer = self
+            .perform(call)
+            .map_err(|stop| Failure::at_line(call.line, stop))?;
+        if let Some(answer) = answer {
+            writeln!(out, "{answer}")?;
+            self.print_page(answer, out)?;
         }
+        Ok(())
     }
 
     fn close<W: Write>(&self, out: &mut W) -> Result<(), Failure> {

@@ -10,7 +10,7 @@ use script::call::Text;
 use script::hex::{TextFault, decode};
 use script::reason::Reason;
 use setups::loads::load_fresh;
-use setups::stop::Stop;
+use store_setup::stop::Stop;
 use store::Store;
 
 /// Why the bytes of a text cannot be had.

@@ -4,8 +4,6 @@ use journal_answers::answer::Answer;
 use printing::page::put_page;
 use running::{Console, Failure};
 use script::call::Call;
-use script::reason::ScriptError;
-use setups::stop::Stop;
 use std::alloc::{AllocError, Global};
 use std::io::Write;
 
@@ -32,19 +30,15 @@ impl Console for Session {
     }
 
     fn answer<W: Write>(&mut self, call: Call<'_>, out: &mut W) -> Result<(), Failure> {
-        match self.perform(call) {
-            Ok(Some(answer)) => {
-                out.write_all(call.words)?;
-                writeln!(out, " -> {answer}")?;
-                self.print_page(answer, out)
-            }
-            Ok(None) => Ok(()),
-            Err(Stop::Script(reason)) => Err(Failure::Script(ScriptError {
-                line: call.line,
-                reason,
-            })),
-            Err(Stop::NoMemory) => Err(Failure::NoMemory),
+        let answer = self
+            .perform(call)
+            .map_err(|stop| Failure::at_line(call.line, stop))?;
+        if let Some(answer) = answer {
+            out.write_all(call.words)?;
+            writeln!(out, " -> {answer}")?;
+            self.print_page(answer, out)?;
         }
+        Ok(())
     }
 
     fn close<W: Write>(&self, out: &mut W) -> Result<(), Failure> {
