@@ -48,6 +48,7 @@ pub fn rewrite(text: &[u8], out: &mut Vec<u8>) -> Result<(), RewriteFault>
     ensures { Rewrites text.now out.old.items out.new.items result }
 {
     let len = out.len();
+    // kept: the length is what a refusal cuts back to; a copy of the text would need memory
     let done = append_rows(text, out);
     if done.is_err() {
         out.truncate(len);

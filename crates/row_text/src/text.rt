@@ -22,6 +22,7 @@ pub fn read_text(text: &[u8]) -> Result<Totals, Damage>
     let mut reader = Reader::new(text);
     let mut rows = 0u64;
     let mut size = 0u128;
+    // kept: each row may be an error that ends the call, so the sums are no fold
     while let Some(row) = reader.next_row()? {
         rows += 1;
         size += row.estimated_size() as u128;

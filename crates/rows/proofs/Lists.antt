@@ -1,6 +1,6 @@
 -- Two texts that are one: where a part of the first ends in the second.
 use Rattle.std.proofs.Common.{◌≡◌, ℕ, suc, ◌+◌, ◌-◌, ◌<◌, ◌≤◌, ◌⊎◌, List, [], ◌∷◌, ◌++◌, length, get_or, take, drop, sym, refl, ap, ◌∙◌, inl, inr, add-zero, arith, length-append}
-use Rattle.std.proofs.lemmas.List.{take-take, take-append-drop, drop-take, drop-drop, drop_more, get_or-drop}
+use Rattle.std.proofs.lemmas.List.{take-take, take-append-drop, drop-take, drop-drop, get_or-drop}
 
 -- xs ends before the last byte of ys ++ c, or right before it
 pub cut : (xs ys : List ℕ) (b c : ℕ) (s : List ℕ) → xs ++ (b ∷ s) ≡ ys ++ (c ∷ []) → ((xs ≡ ys) × (b ≡ c)) ⊎ ((z : List ℕ) × (ys ≡ xs ++ (b ∷ z)))
@@ -52,14 +52,3 @@ drop_on t i e le = let s : i + (e - i) ≡ e = omega arith in drop-drop (e - i) 
 
 pub here : (t : List ℕ) (i : ℕ) → get_or (drop i t) 0 0 ≡ get_or t i 0
 here t i = get_or-drop i t 0 0 ∙ ap (λ k. get_or t k 0) (add-zero i)
-
--- a part by its first byte and what is behind it
-pub take_first : (t : List ℕ) (i e b : ℕ) → i < length t → i < e → get_or t i 0 ≡ b → take (e - i) (drop i t) ≡ b ∷ take (e - (i + 1)) (drop (i + 1) t)
-take_first t i e b lt le is =
-    let s : e - i ≡ suc (e - (i + 1)) = omega arith in
-    ap (take (e - i)) (drop_more t i 0 lt ∙ ap (λ c. c ∷ drop (i + 1) t) is) ∙ ap (λ k. take k (b ∷ drop (i + 1) t)) s
-
-pub two_bytes : (t : List ℕ) (i a b : ℕ) → i + 1 < length t → get_or t i 0 ≡ a → get_or t (i + 1) 0 ≡ b → take (i + 2 - i) (drop i t) ≡ a ∷ b ∷ []
-two_bytes t i a b lt e f =
-    let z : i + 2 - (i + 1 + 1) ≡ 0 = omega arith in
-    take_first t i (i + 2) a (omega arith) (omega arith) e ∙ ap (λ l. a ∷ l) (take_first t (i + 1) (i + 2) b lt (omega arith) f ∙ ap (λ k. b ∷ take k (drop (i + 1 + 1) t)) z)

@@ -27,6 +27,7 @@ pub(crate) fn read_decimal(text: &[u8], low: u64, top: u64) -> Result<(u64, &[u8
     requires top { 0 < top }
     ensures { ReadAs same (Decimal low top) text.now result }
 {
+    // kept: the number stops at the first digit that leaves the range, which a chain says at more length
     let mut n = 0;
     for (i, b) in text.iter().enumerate() {
         if *b == b'\t' && i > 0 {

@@ -14,6 +14,7 @@ fn negative(n: u64) -> i64
     requires fits { n ≤ 2 ^ 63 }
     ensures { result ≡ negsuc (n - 1) }
 {
+    // kept: by `try_from` it would be a result that cannot be an error
     -1 - (n - 1) as i64
 }
 

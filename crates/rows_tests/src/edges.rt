@@ -19,9 +19,8 @@ fn whole(rt: &impl Abort, text: &[u8], rows: u64) -> Result<(), Fail> {
 fn damaged(rt: &impl Abort, text: &[u8], line: usize, place: usize) -> Result<(), Fail> {
     match read_text(text) {
         Ok(_) => Err(Fail::new("not damaged")),
-        Err(Damage { line: l, place: p }) => {
-            assert_eq!(rt; l, line);
-            assert_eq!(rt; p, place);
+        Err(damage) => {
+            assert_eq!(rt; damage, Damage { line, place });
             Ok(())
         }
     }

@@ -1,7 +1,7 @@
 //! Keys and values at their greatest lengths, and the sizes of rows.
 use row_text::read_text;
 use rows::{
-    BlockSize, Damage, Reader, Totals, ValueDeletable, estimate_encoded_size_compacted,
+    BlockSize, Damage, Kind, Reader, Totals, ValueDeletable, estimate_encoded_size_compacted,
     estimate_encoded_size_wal,
 };
 use std::alloc::{AllocError, Global};
@@ -36,24 +36,22 @@ fn longest(rt: HostRuntime) -> Result<(), Fail> {
 #[test]
 fn too_long(rt: HostRuntime) -> Result<(), Fail> {
     let text = long_line(rt.alloc(), 65, 0)?;
-    assert!(rt;
-        matches!(
-            read_text(text.as_slice()),
-            Err(Damage {
-                line: 1,
-                place: 136
-            })
-        )
+    let damage = read_text(text.as_slice()).err();
+    assert_eq!(rt;
+        damage,
+        Some(Damage {
+            line: 1,
+            place: 136
+        })
     );
     let text = long_line(rt.alloc(), 0, 1025)?;
-    assert!(rt;
-        matches!(
-            read_text(text.as_slice()),
-            Err(Damage {
-                line: 1,
-                place: 2057
-            })
-        )
+    let damage = read_text(text.as_slice()).err();
+    assert_eq!(rt;
+        damage,
+        Some(Damage {
+            line: 1,
+            place: 2057
+        })
     );
     Ok(())
 }
@@ -61,7 +59,7 @@ fn too_long(rt: HostRuntime) -> Result<(), Fail> {
 #[test]
 fn one_row(rt: HostRuntime) {
     let mut reader = Reader::new(b"7\tV\t100\t-\t6131\t00ff\n");
-    assert!(rt; matches!(reader.advance(), Ok(true)));
+    assert_eq!(rt; reader.advance(), Ok(true));
     let row = reader.row();
     assert_eq!(rt; row.seq, 7);
     assert_eq!(rt; row.create_ts, Some(100));
@@ -69,7 +67,22 @@ fn one_row(rt: HostRuntime) {
     assert!(rt; row.key == b"6131".as_slice());
     assert!(rt; matches!(row.value, ValueDeletable::Value(_)));
     assert_eq!(rt; row.estimated_size(), 20);
-    assert!(rt; matches!(reader.advance(), Ok(false)));
+    assert_eq!(rt; reader.advance(), Ok(false));
+}
+
+#[test]
+fn handed_out(rt: HostRuntime) -> Result<(), Fail> {
+    let mut reader = Reader::new(b"7\tM\t-\t-\t61\t6263\n");
+    let Ok(Some(row)) = reader.next_row() else {
+        return Err(Fail::new("no row"));
+    };
+    assert_eq!(rt; row.seq, 7);
+    assert_eq!(rt; row.weight(), 3);
+    assert_eq!(rt; row.value.kind(), Kind::Merge);
+    assert_eq!(rt; Kind::try_from(b'M'), Ok(Kind::Merge));
+    assert_eq!(rt; u8::from(Kind::Merge), b'M');
+    assert!(rt; matches!(reader.next_row(), Ok(None)));
+    Ok(())
 }
 
 #[test]

@@ -31,19 +31,19 @@ fn damage_writes_nothing(rt: HostRuntime) -> Result<(), Fail> {
 #[test]
 fn ahead(rt: HostRuntime) {
     let mut reader = Reader::new(b"1\tV\t-\t-\t61\t6263\n2\tT\t-\t-\t61\t\n");
-    assert!(rt; matches!(reader.look_ahead(), Ok((2, 4))));
-    assert!(rt; matches!(reader.advance(), Ok(true)));
-    assert!(rt; matches!(reader.look_ahead(), Ok((1, 1))));
+    assert_eq!(rt; reader.look_ahead(), Ok((2, 4)));
+    assert_eq!(rt; reader.advance(), Ok(true));
+    assert_eq!(rt; reader.look_ahead(), Ok((1, 1)));
     assert_eq!(rt; reader.row().seq, 1);
-    assert!(rt; matches!(reader.advance(), Ok(true)));
+    assert_eq!(rt; reader.advance(), Ok(true));
     assert_eq!(rt; reader.row().seq, 2);
 }
 
 #[test]
 fn ahead_of_damage(rt: HostRuntime) {
     let mut reader = Reader::new(b"1\tV\t-\t-\t61\t62\n2\tT\t-\t-\t61\t00\n");
-    assert!(rt; matches!(reader.look_ahead(), Err(Damage { line: 2, place: 25 })));
-    assert!(rt; matches!(reader.advance(), Ok(true)));
+    assert_eq!(rt; reader.look_ahead(), Err(Damage { line: 2, place: 25 }));
+    assert_eq!(rt; reader.advance(), Ok(true));
     assert_eq!(rt; reader.row().seq, 1);
     assert!(rt; reader.advance().is_err());
     assert_eq!(rt; reader.row().seq, 1);

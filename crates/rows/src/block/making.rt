@@ -4,7 +4,7 @@ ghost use Rattle.rows.specs.Blocks.{Makes};
 use super::BlockSize;
 
 /// A block size that is 0 or above 65,536.
-#[derive(Clone, Copy)]
+#[derive(Clone, Copy, Debug, PartialEq, Eq)]
 pub struct BadBlockSize(pub u64);
 
 impl BlockSize {

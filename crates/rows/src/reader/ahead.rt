@@ -38,6 +38,7 @@ impl<'a> Reader<'a> {
         };
         let mut rows = 0;
         let mut bytes = 0;
+        // kept: the place moves behind the guard, which puts it back on each way out
         while *guard.place < text.len() {
             match read_line(&text[*guard.place..]) {
                 Ok((row, rest)) => {

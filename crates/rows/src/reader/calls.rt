@@ -76,6 +76,7 @@ impl<'a> Reader<'a> {
         ensures answer { Advances (text_of self.old) self.old.place self.new.place (row_under self.old) (row_under self.new) result }
         ensures back { ReadsBack (text_of self.old) self.old.place (row_under self.new) result }
     {
+        // kept: a public call, as `row` is; next_row hands the row out with the answer
         Ok(self.next_row()?.is_some())
     }
 
