@@ -1,3 +1,1 @@
-pub mod Asking
 pub mod Marking
-pub mod Setting

@@ -1,12 +1,11 @@
 -- What a call asks for.
 use Rattle.std.specs.Prelude.{◌≡◌, ℕ, ◌⊎◌, List, [], ◌∷◌, Some, None, Ok, Err, codes, Option, Result, ◌≢◌}
-use Rattle.std.specs.Option.{option_map}
 use Rattle.script.specs.declared.call.Text.{Text}
 use Rattle.console.specs.declared.command.Command.{Command}
 use Rattle.console.specs.declared.command.Command.TheVariants.{Check, Options, Store, Script, Put, Head, Read}
 use Rattle.script.specs.declared.reason.Reason.{Reason}
 use Rattle.script.specs.declared.reason.Reason.TheVariants.{UnknownCommand, WrongWords, NoText, UnknownOption, ExtraText}
-use Rattle.script.specs.Words.{others}
+use Rattle.script.specs.Words.{listed}
 use Rattle.console.specs.Arguments.{One, Two}
 use Rattle.console.specs.Settings.{Changed, none}
 
@@ -33,7 +32,7 @@ Makes ws (Some text) r = r ≡ Err ExtraText
 
 -- the marks are read when the line is performed
 abbrev pub Kept : List (List ℕ) → Result Command Reason → Type 0
-Kept ws (Ok (Script line)) = others (option_map (λ x. x.now) line) ≡ ws
+Kept ws (Ok (Script line)) = listed line ≡ ws
 Kept ws (Ok (Check t)) = ⊥
 Kept ws (Ok (Options c)) = ⊥
 Kept ws (Ok (Store p b)) = ⊥

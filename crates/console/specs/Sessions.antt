@@ -15,8 +15,7 @@ use Rattle.script.specs.declared.hex.TextFault.TheVariants as fault
 use Rattle.script.specs.declared.reason.Reason.{Reason}
 use Rattle.script.specs.declared.reason.Reason.TheVariants.{NotHex, TooLate}
 use Rattle.script.specs.Texts.{Is, Lacks}
-use Rattle.script.specs.Words.{others, words}
-use Rattle.std.specs.Option.{option_map}
+use Rattle.script.specs.Words.{listed, words}
 use Rattle.answers.specs.declared.answer.Answer.{Answer}
 use Rattle.answers.specs.declared.answer.Answer.TheVariants as answer
 use Rattle.console.specs.declared.command.Command.{Command}
@@ -169,7 +168,7 @@ SetsMarks s ws (Err NoMemory) t = (s.begun ≡ false) × Same s t
 abbrev pub Does : Session → Command → Result (Option Answer) Stop → Session → Type 0
 Does s (command.Options c) r t = (r ≡ Ok None) × Altered s c t
 Does s (command.Store p b) r t = SetsStore s p b r t
-Does s (command.Script line) r t = SetsMarks s (others (option_map (λ x. x.now) line)) r t
+Does s (command.Script line) r t = SetsMarks s (listed line) r t
 Does s (command.Check text) r t = Tests s text r t
 Does s (command.Put id text) r t = AsksPut s id text r t
 Does s (command.Head id) r t = (a : Answer) × (r ≡ Ok (Some a)) × AsksHead s id a t

@@ -1,60 +1,35 @@
 //! The words behind a call's first, as numbers.
-ghost use Rattle.std.specs.Option.{option_map};
-ghost use Rattle.console.specs.Arguments.{Both, One, Two};
+ghost use Rattle.console.specs.Arguments.{One, Two};
 ghost use Rattle.console.specs.Settings.{NumberIs};
-ghost use Rattle.script.specs.Words.{others};
+ghost use Rattle.script.specs.Words.{listed};
 
 use script::number::number;
-use script::parts::first_word;
 use script::reason::Reason;
+use script::words::Words;
 
 /// The number that a word is.
 pub(crate) fn as_number(word: &[u8]) -> Result<u64, Reason>
     ensures { NumberIs word.now result }
 {
-    match number(word) {
-        Ok(n) => Ok(n),
-        Err(fault) => Err(Reason::Number(fault)),
-    }
+    Ok(number(word)?)
 }
 
 /// One word, a number.
-pub(crate) fn one_number(words: Option<&[u8]>) -> Result<u64, Reason>
-    ensures { One (others (option_map (λ x. x.now) words.entry)) result }
+pub(crate) fn one_number(mut words: Words<'_>) -> Result<u64, Reason>
+    ensures { One (listed words.entry) result }
 {
-    let Some(line) = words else {
+    let (Some(word), None) = (words.next(), words.next()) else {
         return Err(Reason::WrongWords);
     };
-    let parted = first_word(line);
-    match parted.behind {
-        Some(_) => Err(Reason::WrongWords),
-        None => as_number(parted.front),
-    }
-}
-
-/// The numbers that two words are.
-fn both_numbers(first: &[u8], second: &[u8]) -> Result<(u64, u64), Reason>
-    ensures { Both first.now second.now result }
-{
-    let first = as_number(first)?;
-    let second = as_number(second)?;
-    Ok((first, second))
+    as_number(word)
 }
 
 /// Two words, each a number.
-pub(crate) fn two_numbers(words: Option<&[u8]>) -> Result<(u64, u64), Reason>
-    ensures { Two (others (option_map (λ x. x.now) words.entry)) result }
+pub(crate) fn two_numbers(mut words: Words<'_>) -> Result<(u64, u64), Reason>
+    ensures { Two (listed words.entry) result }
 {
-    let Some(line) = words else {
+    let (Some(first), Some(second), None) = (words.next(), words.next(), words.next()) else {
         return Err(Reason::WrongWords);
     };
-    let parted = first_word(line);
-    let Some(rest) = parted.behind else {
-        return Err(Reason::WrongWords);
-    };
-    let last = first_word(rest);
-    match last.behind {
-        Some(_) => Err(Reason::WrongWords),
-        None => both_numbers(parted.front, last.front),
-    }
+    Ok((as_number(first)?, as_number(second)?))
 }

@@ -1,13 +1,12 @@
 //! What the calls of a script ask for.
-ghost use Rattle.std.specs.Option.{option_map};
 ghost use Rattle.console.specs.Commands.{Alters, Asks, Checks, Heads, Makes, Marks, Puts, ReadsFile};
-ghost use Rattle.script.specs.Words.{others, words};
+ghost use Rattle.script.specs.Words.{listed, words};
 
 use crate::arguments::{one_number, two_numbers};
 use crate::options::{Changes, changes_of};
 use script::call::{Call, Text};
-use script::parts::{first_word, is_word};
 use script::reason::Reason;
+use script::words::{Words, first_word};
 
 /// A line that the console performs.
 #[derive(Clone, Copy)]
@@ -15,17 +14,17 @@ pub enum Command<'a> {
     Check(Text<'a>),
     Options(Changes),
     Store(u64, u64),
-    Script(Option<&'a [u8]>),
+    Script(Words<'a>),
     Put(u64, Text<'a>),
     Head(u64),
     Read(u64),
 }
 
 /// `check TEXT`
-fn check<'a>(behind: Option<&'a [u8]>, text: Option<Text<'a>>) -> Result<Command<'a>, Reason>
-    ensures { Checks (others (option_map (λ x. x.now) behind.entry)) text.entry result }
+fn check<'a>(mut behind: Words<'a>, text: Option<Text<'a>>) -> Result<Command<'a>, Reason>
+    ensures { Checks (listed behind.entry) text.entry result }
 {
-    match (text, behind) {
+    match (text, behind.next()) {
         (None, _) => Err(Reason::NoText),
         (Some(_), Some(_)) => Err(Reason::WrongWords),
         (Some(text), None) => Ok(Command::Check(text)),
@@ -33,8 +32,8 @@ fn check<'a>(behind: Option<&'a [u8]>, text: Option<Text<'a>>) -> Result<Command
 }
 
 /// `options KEY=NUMBER..`
-fn options<'a>(behind: Option<&'a [u8]>, text: Option<Text<'a>>) -> Result<Command<'a>, Reason>
-    ensures { Alters (others (option_map (λ x. x.now) behind.entry)) text.entry result }
+fn options<'a>(behind: Words<'a>, text: Option<Text<'a>>) -> Result<Command<'a>, Reason>
+    ensures { Alters (listed behind.entry) text.entry result }
 {
     if text.is_some() {
         return Err(Reason::UnknownOption);
@@ -43,8 +42,8 @@ fn options<'a>(behind: Option<&'a [u8]>, text: Option<Text<'a>>) -> Result<Comma
 }
 
 /// `store PLACES BYTES`
-fn store<'a>(behind: Option<&'a [u8]>, text: Option<Text<'a>>) -> Result<Command<'a>, Reason>
-    ensures { Makes (others (option_map (λ x. x.now) behind.entry)) text.entry result }
+fn store<'a>(behind: Words<'a>, text: Option<Text<'a>>) -> Result<Command<'a>, Reason>
+    ensures { Makes (listed behind.entry) text.entry result }
 {
     if text.is_some() {
         return Err(Reason::ExtraText);
@@ -54,8 +53,8 @@ fn store<'a>(behind: Option<&'a [u8]>, text: Option<Text<'a>>) -> Result<Command
 }
 
 /// `script MARK..`
-fn script<'a>(behind: Option<&'a [u8]>, text: Option<Text<'a>>) -> Result<Command<'a>, Reason>
-    ensures { Marks (others (option_map (λ x. x.now) behind.entry)) text.entry result }
+fn script<'a>(behind: Words<'a>, text: Option<Text<'a>>) -> Result<Command<'a>, Reason>
+    ensures { Marks (listed behind.entry) text.entry result }
 {
     if text.is_some() {
         return Err(Reason::ExtraText);
@@ -64,8 +63,8 @@ fn script<'a>(behind: Option<&'a [u8]>, text: Option<Text<'a>>) -> Result<Comman
 }
 
 /// `put ID TEXT`
-fn put<'a>(behind: Option<&'a [u8]>, text: Option<Text<'a>>) -> Result<Command<'a>, Reason>
-    ensures { Puts (others (option_map (λ x. x.now) behind.entry)) text.entry result }
+fn put<'a>(behind: Words<'a>, text: Option<Text<'a>>) -> Result<Command<'a>, Reason>
+    ensures { Puts (listed behind.entry) text.entry result }
 {
     let Some(text) = text else {
         return Err(Reason::NoText);
@@ -74,8 +73,8 @@ fn put<'a>(behind: Option<&'a [u8]>, text: Option<Text<'a>>) -> Result<Command<'
 }
 
 /// `head ID`
-fn head<'a>(behind: Option<&'a [u8]>, text: Option<Text<'a>>) -> Result<Command<'a>, Reason>
-    ensures { Heads (others (option_map (λ x. x.now) behind.entry)) text.entry result }
+fn head<'a>(behind: Words<'a>, text: Option<Text<'a>>) -> Result<Command<'a>, Reason>
+    ensures { Heads (listed behind.entry) text.entry result }
 {
     if text.is_some() {
         return Err(Reason::ExtraText);
@@ -84,8 +83,8 @@ fn head<'a>(behind: Option<&'a [u8]>, text: Option<Text<'a>>) -> Result<Command<
 }
 
 /// `read ID`
-fn read<'a>(behind: Option<&'a [u8]>, text: Option<Text<'a>>) -> Result<Command<'a>, Reason>
-    ensures { ReadsFile (others (option_map (λ x. x.now) behind.entry)) text.entry result }
+fn read<'a>(behind: Words<'a>, text: Option<Text<'a>>) -> Result<Command<'a>, Reason>
+    ensures { ReadsFile (listed behind.entry) text.entry result }
 {
     if text.is_some() {
         return Err(Reason::ExtraText);
@@ -97,23 +96,15 @@ fn read<'a>(behind: Option<&'a [u8]>, text: Option<Text<'a>>) -> Result<Command<
 pub fn command_of<'a>(call: Call<'a>) -> Result<Command<'a>, Reason>
     ensures { Asks (words call.entry.words.now) call.entry.text result }
 {
-    let parted = first_word(call.words);
-    let verb = parted.front;
-    if is_word(verb, b"check") {
-        check(parted.behind, call.text)
-    } else if is_word(verb, b"options") {
-        options(parted.behind, call.text)
-    } else if is_word(verb, b"store") {
-        store(parted.behind, call.text)
-    } else if is_word(verb, b"script") {
-        script(parted.behind, call.text)
-    } else if is_word(verb, b"put") {
-        put(parted.behind, call.text)
-    } else if is_word(verb, b"head") {
-        head(parted.behind, call.text)
-    } else if is_word(verb, b"read") {
-        read(parted.behind, call.text)
-    } else {
-        Err(Reason::UnknownCommand)
+    let (word, behind) = first_word(call.words);
+    match word {
+        b"check" => check(behind, call.text),
+        b"options" => options(behind, call.text),
+        b"store" => store(behind, call.text),
+        b"script" => script(behind, call.text),
+        b"put" => put(behind, call.text),
+        b"head" => head(behind, call.text),
+        b"read" => read(behind, call.text),
+        _ => Err(Reason::UnknownCommand),
     }
 }

@@ -1,12 +1,11 @@
 //! The options of a script and how a line changes them.
 ghost use Rattle.std.specs.Prelude.{◌≡◌};
-ghost use Rattle.std.specs.Option.{option_map};
 ghost use Rattle.console.specs.Settings.{Changed, Sets, changed, none, with};
-ghost use Rattle.script.specs.Words.{others};
+ghost use Rattle.script.specs.Words.{listed};
 
 use crate::arguments::as_number;
-use script::parts::{after, part};
 use script::reason::Reason;
+use script::words::Words;
 
 /// The values that later calls use.
 #[derive(Clone, Copy)]
@@ -30,7 +29,7 @@ pub enum Setting {
 fn setting_of(word: &[u8]) -> Result<Setting, Reason>
     ensures { Sets word.now result }
 {
-    let Some(value) = after(word, b"block_size=") else {
+    let Some(value) = word.strip_prefix(b"block_size=") else {
         return Err(Reason::UnknownOption);
     };
     Ok(Setting::BlockSize(as_number(value)?))
@@ -50,15 +49,12 @@ impl Changes {
 }
 
 /// Reads the words of a line as settings.
-pub(crate) fn changes_of(words: Option<&[u8]>) -> Result<Changes, Reason>
-    ensures { Changed (others (option_map (λ x. x.now) words.entry)) none result }
+pub(crate) fn changes_of(words: Words<'_>) -> Result<Changes, Reason>
+    ensures { Changed (listed words.entry) none result }
 {
-    let mut rest = words;
     let mut changes = Changes { block_size: None };
-    while let Some(line) = rest {
-        let parted = part(line, b' ');
-        changes = changes.with(setting_of(parted.front)?);
-        rest = parted.behind;
+    for word in words {
+        changes = changes.with(setting_of(word)?);
     }
     Ok(changes)
 }

@@ -1,6 +1,5 @@
 -- What the calls of a script do.
 use Rattle.std.specs.Prelude.{◌≡◌, ℕ, ◌⊎◌, List, Some, None, Ok, Err, vec_items, Option, Result}
-use Rattle.std.specs.Option.{option_map}
 use Rattle.journal_answers.specs.Answers.{Shows, done, length_of, loaded_as, seen, text_of}
 use Rattle.journal_answers.specs.declared.account.Part.TheVariants as part
 use Rattle.journal_answers.specs.declared.answer.Answer.{Answer}
@@ -15,7 +14,7 @@ use Rattle.row_text.specs.Checks.{Checks, fault as check-fault}
 use Rattle.row_text.specs.declared.fault.CheckFault.{CheckFault}
 use Rattle.row_text.specs.declared.text.Checked.{Checked}
 use Rattle.script.specs.Texts.{Is, Lacks}
-use Rattle.script.specs.Words.{others, words}
+use Rattle.script.specs.Words.{listed, words}
 use Rattle.script.specs.declared.call.Call.{Call}
 use Rattle.script.specs.declared.call.Text.{Text}
 use Rattle.script.specs.declared.hex.TextFault.{TextFault}
@@ -23,8 +22,8 @@ use Rattle.script.specs.declared.hex.TextFault.TheVariants as fault
 use Rattle.script.specs.declared.reason.Reason.{Reason}
 use Rattle.script.specs.declared.reason.Reason.TheVariants.{NotHex}
 use Rattle.setups.specs.Loading.{Listing}
-use Rattle.setups.specs.declared.stop.Stop.{Stop}
-use Rattle.setups.specs.declared.stop.Stop.TheVariants.{Script, NoMemory}
+use Rattle.store_setup.specs.declared.stop.Stop.{Stop}
+use Rattle.store_setup.specs.declared.stop.Stop.TheVariants.{Script, NoMemory}
 use Rattle.store.specs.Calls.{Put, Head, Read}
 use Rattle.store.specs.Said.{fault as store-fault}
 use Rattle.store.specs.declared.fault.StoreFault.{StoreFault}
@@ -111,10 +110,10 @@ pub record AsksRead (s : Session) (id : ℕ) (a : Answer) (t : Session) : Type 0
 
 -- what is done for a command
 abbrev pub Does : Session → Command → Result (Option Answer) Stop → Session → Type 0
-Does s (command.Options line) r t = SetsOptions s (others (option_map (λ x. x.now) line)) r t
+Does s (command.Options line) r t = SetsOptions s (listed line) r t
 Does s (command.Store p b) r t = SetsStore s p b r t
-Does s (command.Script line) r t = SetsMarks s (others (option_map (λ x. x.now) line)) r t
-Does s (command.Record line) r t = SetsRecord s (others (option_map (λ x. x.now) line)) r t
+Does s (command.Script line) r t = SetsMarks s (listed line) r t
+Does s (command.Record line) r t = SetsRecord s (listed line) r t
 Does s (command.Table k p b) r t = (x : Option Answer) × (r ≡ Ok x) × SetsTable s k p b x t
 Does s (command.Check text) r t = Tests s text r t
 Does s (command.Put id text) r t = AsksPut s id text r t

@@ -5,8 +5,8 @@ use Rattle.journal_answers.specs.declared.account.Part.TheVariants.{Journal}
 use Rattle.journal_answers.specs.declared.answer.Answer.{Answer}
 use Rattle.journal_answers.specs.declared.answer.Answer.TheVariants as answer
 use Rattle.script.specs.declared.reason.Reason.TheVariants.{NotName, NameTaken, UnknownStation}
-use Rattle.setups.specs.declared.stop.Stop.{Stop}
-use Rattle.setups.specs.declared.stop.Stop.TheVariants.{Script, NoMemory}
+use Rattle.store_setup.specs.declared.stop.Stop.{Stop}
+use Rattle.store_setup.specs.declared.stop.Stop.TheVariants.{Script, NoMemory}
 use Rattle.setups.specs.Settings.{opening_options}
 use Rattle.stations.specs.declared.name.Name.{Name}
 use Rattle.stations.specs.declared.station.Station.{Station}

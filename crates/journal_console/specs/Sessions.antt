@@ -7,7 +7,7 @@ use Rattle.journal_answers.specs.declared.answer.Answer.{Answer}
 use Rattle.store.specs.Meaning.{Meaning}
 use Rattle.store.specs.Memory.{memory_means}
 use Rattle.store.specs.Scripted.{scripted}
-use Rattle.setups.specs.Marks.{Fresh}
+use Rattle.store_setup.specs.Marks.{Fresh}
 use Rattle.setups.specs.Settings.{begin}
 use Rattle.journal_console.specs.declared.session.Session.{Session}
 

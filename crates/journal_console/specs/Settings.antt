@@ -6,9 +6,9 @@ use Rattle.commands.specs.declared.options.Options.{Options}
 use Rattle.commands.specs.Settings.{Changed}
 use Rattle.script.specs.declared.reason.Reason.TheVariants.{TooLate}
 use Rattle.setups.specs.declared.settings.Settings.{Settings}
-use Rattle.setups.specs.declared.stop.Stop.{Stop}
-use Rattle.setups.specs.declared.stop.Stop.TheVariants.{Script, NoMemory}
-use Rattle.setups.specs.Marks.{Fresh, Marked, MarksAre}
+use Rattle.store_setup.specs.declared.stop.Stop.{Stop}
+use Rattle.store_setup.specs.declared.stop.Stop.TheVariants.{Script, NoMemory}
+use Rattle.store_setup.specs.Marks.{Fresh, Marked, MarksAre}
 use Rattle.setups.specs.Records.{RecordOf}
 use Rattle.wal_init.specs.declared.record.ManifestRecord.{ManifestRecord}
 use Rattle.journal_console.specs.declared.session.Session.{Session}

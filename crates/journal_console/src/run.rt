@@ -4,10 +4,10 @@ use journal_answers::answer::Answer;
 use journal_answers::page::put_page;
 use script::reason::ScriptError;
 use script::script::Script;
-use setups::stop::Stop;
 use std::alloc::{AllocError, Global};
 use std::io::Write;
 use std::{fmt, io};
+use store_setup::stop::Stop;
 
 /// Why a run ends before the end of its script.
 #[derive(Drop)]

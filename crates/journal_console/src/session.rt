@@ -7,12 +7,12 @@ use commands::command::{Command, command_of};
 use journal_answers::account::Account;
 use journal_answers::answer::Answer;
 use script::call::Call;
-use setups::marks::fresh;
 use setups::settings::Settings;
-use setups::stop::Stop;
 use stations::Station;
 use std::alloc::{AllocError, Global};
 use store::{FaultScript, Mark, MemoryStore, Store};
+use store_setup::marks::fresh;
+use store_setup::stop::Stop;
 
 mod calls;
 mod journal;
@@ -43,7 +43,7 @@ impl Session {
         let store = fresh(heap, 1024, 16_777_216, &[])?;
         Ok(Session {
             heap,
-            settings: Settings::new(),
+            settings: Settings::default(),
             account: Account::new(),
             buffer: Vec::new(heap),
             page: [0; 16384],

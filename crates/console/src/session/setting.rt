@@ -1,13 +1,13 @@
 //! Lines that set the store up, before the first call.
 ghost use Rattle.std.specs.Prelude.{◌≡◌};
-ghost use Rattle.std.specs.Option.{option_map};
-ghost use Rattle.script.specs.Words.{others};
+ghost use Rattle.script.specs.Words.{listed};
 ghost use Rattle.console.specs.Sessions.{SetsMarks, SetsStore};
 
 use super::{Session, Stop};
 use crate::setup::{fresh, marks_of};
 use answers::answer::Answer;
 use script::reason::Reason;
+use script::words::Words;
 
 impl Session {
     /// A store with other room.
@@ -31,8 +31,8 @@ impl Session {
     }
 
     /// The store under other marks.
-    pub(super) fn set_marks(&mut self, words: Option<&[u8]>) -> Result<Option<Answer>, Stop>
-        ensures { SetsMarks self.old (others (option_map (λ x. x.now) words.entry)) result self.new }
+    pub(super) fn set_marks(&mut self, words: Words<'_>) -> Result<Option<Answer>, Stop>
+        ensures { SetsMarks self.old (listed words.entry) result self.new }
     {
         if self.begun {
             return Err(Stop::Script(Reason::TooLate));

@@ -12,8 +12,8 @@ use script::call::Text;
 use script::hex::{TextFault, decode};
 use script::reason::Reason;
 use setups::loads::load_fresh;
-use setups::stop::Stop;
 use store::Store;
+use store_setup::stop::Stop;
 
 /// Why the bytes of a text cannot be had.
 fn stop_of(fault: TextFault) -> Stop

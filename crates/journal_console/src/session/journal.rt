@@ -7,8 +7,8 @@ use journal_answers::account::Part;
 use journal_answers::answer::{Answer, tail_answer};
 use journal_answers::refusals::of_wal;
 use script::reason::Reason;
-use setups::stop::Stop;
 use stations::{Name, Station, find};
+use store_setup::stop::Stop;
 use wal::last_seen_wal_id;
 use wal_init::{Opening, fence_and_init};
 
@@ -28,7 +28,7 @@ impl Session {
         requires { vec_len self.old.stations < vec_capacity self.old.stations }
         ensures { Granting self.old name id result self.new }
     {
-        let options = self.settings.opening_options();
+        let options = wal_init::Options::from(self.settings);
         match fence_and_init(&mut self.store, self.settings.manifest, id, options) {
             Ok(grant) => {
                 let answer = Answer::Opened {
@@ -47,7 +47,7 @@ impl Session {
     pub(super) fn open(&mut self, word: &[u8], id: u64) -> Result<Option<Answer>, Stop>
         ensures { AsksOpen self.old word.now id result self.new }
     {
-        let Some(name) = Name::new(word) else {
+        let Ok(name) = Name::try_from(word) else {
             return Err(Stop::Script(Reason::NotName));
         };
         if find(self.stations.as_slice(), word).is_some() {

@@ -1,21 +1,21 @@
 //! Lines that set values for later calls, and the store up.
-ghost use Rattle.std.specs.Option.{option_map};
-ghost use Rattle.script.specs.Words.{others};
+ghost use Rattle.script.specs.Words.{listed};
 ghost use Rattle.journal_console.specs.Settings.{SetsMarks, SetsOptions, SetsRecord, SetsStore, SetsTable};
 
 use super::Session;
 use commands::command::TableKind;
 use journal_answers::answer::Answer;
 use script::reason::Reason;
-use setups::marks::{fresh, marks_of};
+use script::words::Words;
 use setups::records::record_of;
 use setups::settings::Settings;
-use setups::stop::Stop;
+use store_setup::marks::{fresh, marks_of};
+use store_setup::stop::Stop;
 
 impl Session {
     /// Other options.
-    pub(super) fn set_options(&mut self, words: Option<&[u8]>) -> Result<Option<Answer>, Stop>
-        ensures { SetsOptions self.old (others (option_map (λ x. x.now) words.entry)) result self.new }
+    pub(super) fn set_options(&mut self, words: Words<'_>) -> Result<Option<Answer>, Stop>
+        ensures { SetsOptions self.old (listed words.entry) result self.new }
     {
         let options = self.settings.options.changed(words)?;
         self.settings = Settings {
@@ -39,8 +39,8 @@ impl Session {
     }
 
     /// Another record of the manifest.
-    pub(super) fn set_record(&mut self, words: Option<&[u8]>) -> Result<Option<Answer>, Stop>
-        ensures { SetsRecord self.old (others (option_map (λ x. x.now) words.entry)) result self.new }
+    pub(super) fn set_record(&mut self, words: Words<'_>) -> Result<Option<Answer>, Stop>
+        ensures { SetsRecord self.old (listed words.entry) result self.new }
     {
         if self.begun {
             return Err(Stop::Script(Reason::TooLate));
@@ -74,8 +74,8 @@ impl Session {
     }
 
     /// The store under other marks.
-    pub(super) fn set_marks(&mut self, words: Option<&[u8]>) -> Result<Option<Answer>, Stop>
-        ensures { SetsMarks self.old (others (option_map (λ x. x.now) words.entry)) result self.new }
+    pub(super) fn set_marks(&mut self, words: Words<'_>) -> Result<Option<Answer>, Stop>
+        ensures { SetsMarks self.old (listed words.entry) result self.new }
     {
         if self.begun {
             return Err(Stop::Script(Reason::TooLate));

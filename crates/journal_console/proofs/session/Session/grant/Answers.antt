@@ -20,7 +20,7 @@ returns-in-Ok c =
     let attempts = c.attempts.ensures in
     record {
       found = Ok g;
-      opens = subst (λ (o : Options). Opened (before-store c) (after_store c) c.args.self.now.settings.manifest c.args.id o (Ok g)) c.opening_options-options.ensures c.in-Ok.ensures.opened;
+      opens = subst (λ (o : Options). Opened (before-store c) (after_store c) c.args.self.now.settings.manifest c.args.id o (Ok g)) c.from-options.ensures c.in-Ok.ensures.opened;
       admits = (cc, (_, record { name = refl; opening = c.new-opening.ensures }, c.push_reserved.ensures.items));
       framed = record { settings = refl; places = refl; bytes = refl; marks = refl };
       account = refl;
