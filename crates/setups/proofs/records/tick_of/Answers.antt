@@ -21,10 +21,10 @@ returns-then-eq c =
 
 pub returns : goal.returns
 returns c z small e =
-    let equal = slice_eq-Decides Decides-eqb _ _ _ c.eq.ensures in
     let tick = c.in-Ok-from_str_radix.tick in
     let r = read_back _ _ z _ small c.in-Ok.ensures.cases.0 e c.from_str_radix.ensures.value in
     let same : Ok tick ≡ Ok z = sym c.in-Ok-from_str_radix.is ∙ r in
     let is : tick ≡ z = cc in
     let back : to_z w64 (of_z w64 tick) ≡ z = ap (λ (x : ℤ). to_z w64 (of_z w64 x)) is ∙ to_z-of_z w64 z (sfits_of small) in
+    let equal = slice_eq-Decides Decides-eqb _ _ _ c.eq.ensures in
     false≢true (sym c.if-eq.false ∙ equal.1 (c.as_bytes.ensures.value ∙ c.in_ok-printed.ensures.ok ∙ ap signed_decimal back ∙ sym e))
