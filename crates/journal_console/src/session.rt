@@ -7,12 +7,12 @@ use commands::command::{Command, command_of};
 use journal_answers::account::Account;
 use journal_answers::answer::Answer;
 use script::call::Call;
-use store_setup::marks::fresh;
 use setups::settings::Settings;
-use store_setup::stop::Stop;
 use stations::Station;
 use std::alloc::{AllocError, Global};
-use store::{FaultScript, Mark, MemoryStore, Store};
+use store::MOST_BYTES;
+use store_setup::setup::StoreSetup;
+use store_setup::stop::Stop;
 
 mod calls;
 mod journal;
@@ -26,13 +26,9 @@ pub struct Session {
     settings: Settings,
     account: Account,
     buffer: Vec<u8>,
-    page: [u8; 16384],
+    page: [u8; MOST_BYTES],
     lines: Vec<u8>,
-    begun: bool,
-    places: usize,
-    bytes: usize,
-    marks: Vec<Mark>,
-    store: FaultScript<MemoryStore>,
+    setup: StoreSetup,
     stations: Vec<Station>,
 }
 
@@ -41,19 +37,15 @@ impl Session {
     pub fn new(heap: Global) -> Result<Session, AllocError>
         ensures { IfOk result Begins }
     {
-        let store = fresh(heap, 1024, 16_777_216, &[])?;
+        let setup = StoreSetup::new(heap)?;
         Ok(Session {
             heap,
             settings: Settings::default(),
             account: Account::new(),
             buffer: Vec::new(heap),
-            page: [0; 16384],
+            page: [0; MOST_BYTES],
             lines: Vec::new(heap),
-            begun: false,
-            places: 1024,
-            bytes: 16_777_216,
-            marks: Vec::new(heap),
-            store,
+            setup,
             stations: Vec::new(heap),
         })
     }
@@ -62,9 +54,7 @@ impl Session {
     pub fn account(&self) -> Account
         ensures { result ≡ closing self.now }
     {
-        let (places, bytes) = self.store.inner().room();
-        let files = self.places.saturating_sub(places);
-        let taken = self.bytes.saturating_sub(bytes);
+        let (files, taken) = self.setup.taken();
         self.account.holding(files, taken)
     }
 
@@ -93,10 +83,8 @@ impl Session {
     pub fn perform(&mut self, call: Call<'_>) -> Result<Option<Answer>, Stop>
         ensures { Performs self.old call.entry result self.new }
     {
-        match command_of(call) {
-            Ok(command) => self.obey(command),
-            Err(reason) => Err(Stop::Script(reason)),
-        }
+        let command = command_of(call)?;
+        self.obey(command)
     }
 
     /// Performs a command.
@@ -104,19 +92,22 @@ impl Session {
         ensures { Does self.old command.entry result self.new }
     {
         match command {
-            Command::Options(words) => self.set_options(words),
-            Command::Store(places, bytes) => self.set_store(places, bytes),
-            Command::Script(words) => self.set_marks(words),
-            Command::Record(words) => self.set_record(words),
-            Command::Table(kind, puts, bytes) => Ok(self.set_table(kind, puts, bytes)),
-            Command::Check(text) => self.check(text),
-            Command::Put(id, text) => self.put(id, text),
+            Command::Options(words) => self.set_options(words).map(|()| None),
+            Command::Store(places, bytes) => self.setup.set_room(places, bytes).map(|()| None),
+            Command::Script(words) => self.setup.set_marks(words).map(|()| None),
+            Command::Record(words) => self.set_record(words).map(|()| None),
+            Command::Table(kind, puts, bytes) => {
+                self.set_table(kind, puts, bytes);
+                Ok(None)
+            }
+            Command::Check(text) => self.check(text).map(Some),
+            Command::Put(id, text) => self.put(id, text).map(Some),
             Command::Head(id) => Ok(Some(self.head(id))),
             Command::Read(id) => Ok(Some(self.read(id))),
-            Command::Load(text) => self.load(text),
+            Command::Load(text) => self.load(text).map(Some),
             Command::Tail(start) => Ok(Some(self.tail(start))),
-            Command::Open(name, id) => self.open(name, id),
-            Command::Arrive(name, k) => self.arrive(name, k),
+            Command::Open(name, id) => self.open(name, id).map(Some),
+            Command::Arrive(name, k) => self.arrive(name, k).map(Some),
         }
     }
 }

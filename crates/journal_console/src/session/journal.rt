@@ -6,8 +6,8 @@ use super::Session;
 use journal_answers::account::Part;
 use journal_answers::answer::Answer;
 use script::reason::Reason;
-use store_setup::stop::Stop;
 use stations::{Name, Station, find};
+use store_setup::stop::Stop;
 use wal::last_seen_wal_id;
 use wal_init::{Opening, fence_and_init};
 
@@ -16,7 +16,7 @@ impl Session {
     pub(super) fn tail(&mut self, start: u64) -> Answer
         ensures { AsksTail self.old start result self.new }
     {
-        let found = last_seen_wal_id(&mut self.store, start);
+        let found = last_seen_wal_id(&mut self.setup.store, start);
         let answer = Answer::of(found.map(|(id, heads)| Answer::Tail { id, heads }));
         self.note(Part::Journal, answer);
         answer
@@ -28,7 +28,7 @@ impl Session {
         ensures { Granting self.old name id result self.new }
     {
         let options = wal_init::Options::from(self.settings);
-        match fence_and_init(&mut self.store, self.settings.manifest, id, options) {
+        match fence_and_init(&mut self.setup.store, self.settings.manifest, id, options) {
             Ok(grant) => {
                 let answer = Answer::Opened {
                     fence: grant.fence(),
@@ -43,33 +43,31 @@ impl Session {
     }
 
     /// Opens the journal for a new station.
-    pub(super) fn open(&mut self, word: &[u8], id: u64) -> Result<Option<Answer>, Stop>
+    pub(super) fn open(&mut self, word: &[u8], id: u64) -> Result<Answer, Stop>
         ensures { AsksOpen self.old word.now id result self.new }
     {
-        let Ok(name) = Name::try_from(word) else {
-            return Err(Stop::Script(Reason::NotName));
-        };
+        let name = Name::try_from(word)?;
         if find(self.stations.as_slice(), word).is_some() {
             return Err(Stop::Script(Reason::NameTaken));
         }
-        if self.stations.reserve(1).is_err() {
-            return Err(Stop::NoMemory);
-        }
+        self.stations.reserve(1)?;
         let answer = self.grant(name, id);
         self.note(Part::Journal, answer);
-        Ok(Some(answer))
+        Ok(answer)
     }
 
     /// Asks for a file of a station's window.
-    pub(super) fn arrive(&mut self, word: &[u8], k: u64) -> Result<Option<Answer>, Stop>
+    pub(super) fn arrive(&mut self, word: &[u8], k: u64) -> Result<Answer, Stop>
         ensures { AsksArrive self.old word.now k result self.new }
     {
         let Some(i) = find(self.stations.as_slice(), word) else {
             return Err(Stop::Script(Reason::UnknownStation));
         };
-        let asked = self.stations[i].opening.arrive(&mut self.store, k as usize);
+        let asked = self.stations[i]
+            .opening
+            .arrive(&mut self.setup.store, k as usize);
         let answer = Answer::Asked(asked);
         self.note(Part::Journal, answer);
-        Ok(Some(answer))
+        Ok(answer)
     }
 }

@@ -8,7 +8,7 @@ use Rattle.journal_console.proofs.session.Session.grant.Goals as goal
 
 -- the store before and after the fence
 abbrev before-store : (c : goal.After-push_reserved) → Meaning
-before-store c = scripted memory_means c.args.self.now.store
+before-store c = scripted memory_means c.args.self.now.setup.store
 
 abbrev after_store : (c : goal.After-push_reserved) → Meaning
 after_store c = scripted memory_means c.fence_and_init.new.store
