@@ -16,7 +16,7 @@ use Rattle.wal.specs.declared.fault.WalFault.{WalFault}
 use Rattle.wal.specs.Said.{fault}
 use Rattle.wal.specs.Tails.{Tail}
 use Rattle.wal_init.specs.declared.grant.Grant.{Grant}
-use Rattle.wal_init.specs.Opening.{Arrived, means, opened}
+use Rattle.wal_init.specs.Opening.{Arrived, opened}
 use Rattle.wal_init.specs.WriterInit.{Opened}
 use Rattle.journal_console.specs.declared.session.Session.{Session}
 use Rattle.journal_console.specs.Sessions.{Answered, Framed, Same, store_of}
@@ -32,7 +32,7 @@ pub record AsksTail (s : Session) (start : ℕ) (a : Answer) (t : Session) : Typ
 -- a station of this name with the opening of this grant
 pub record Opens (n : Name) (g : Grant) (x : Station) : Type 0 where
   pub name : x.name ≡ n
-  pub opening : means x.opening ≡ opened g
+  pub opening : x.opening ≡ opened g
 
 -- a granted opening makes a station, behind those that are there; a refused one makes none
 abbrev pub Admits : Name → List Station → Result Grant WalFault → Answer → List Station → Type 0
@@ -71,7 +71,7 @@ pub record HasArrived (s : Session) (w : List ℕ) (k : ℕ) (a : Answer) (t : S
   pub there : was ≡ slice_index_or (vec_items s.stations) place was
   pub is : Station
   pub asked : Bool
-  pub arrived : Arrived (store_of s) (store_of t) (means was.opening) (means is.opening) k asked
+  pub arrived : Arrived (store_of s) (store_of t) was.opening is.opening k asked
   pub name : is.name ≡ was.name
   pub stations : vec_items t.stations ≡ slice_set (vec_items s.stations) place is
   pub answer : a ≡ answer.Asked asked

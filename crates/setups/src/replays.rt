@@ -1,7 +1,6 @@
 //! The next files of a replay, read into a fresh table.
 ghost use Rattle.std.specs.Prelude.{IfOk};
 ghost use Rattle.mem_table.specs.Meaning.{empty};
-ghost use Rattle.wal_replay.specs.Replays.{meaning};
 ghost use Rattle.setups.specs.Replaying.{Replaying};
 
 use crate::settings::Settings;
@@ -29,7 +28,7 @@ fn next_into<S: Store, T: Table>(
     buffer: &mut [u8],
     lines: &mut Vec<u8>,
 ) -> Result<Result<Option<Handed>, ReplayFault>, AllocError>
-    ensures { IfOk result (Replaying (S.Store.means store.old) (S.Store.means store.new) (meaning replay.old) (meaning replay.new) (T.Table.means table.old) buffer.old buffer.new lines.new.items) }
+    ensures { IfOk result (Replaying (S.Store.means store.old) (S.Store.means store.new) replay.old replay.new (T.Table.means table.old) buffer.old buffer.new lines.new.items) }
 {
     lines.clear();
     match replay.next(store, table, buffer) {
@@ -52,7 +51,7 @@ pub fn next_fresh<S: Store>(
     buffer: &mut [u8],
     lines: &mut Vec<u8>,
 ) -> Result<Result<Option<Handed>, ReplayFault>, AllocError>
-    ensures { IfOk result (Replaying (S.Store.means store.old) (S.Store.means store.new) (meaning replay.old) (meaning replay.new) (empty settings.puts settings.bytes) buffer.old buffer.new lines.new.items) }
+    ensures { IfOk result (Replaying (S.Store.means store.old) (S.Store.means store.new) replay.old replay.new (empty settings.puts settings.bytes) buffer.old buffer.new lines.new.items) }
 {
     let puts = settings.puts;
     let bytes = settings.bytes;

@@ -6,7 +6,7 @@ use Rattle.store.specs.Memory.{memory_means}
 use Rattle.store.specs.Scripted.{scripted}
 use Rattle.store.specs.declared.memory.MemoryStore.{MemoryStore}
 use Rattle.store.specs.declared.script.FaultScript.{FaultScript}
-use Rattle.wal_init.specs.Opening.{Arrived, means}
+use Rattle.wal_init.specs.Opening.{Arrived}
 use Rattle.journal_console.proofs.Journeys.{answered_on}
 use Rattle.journal_console.proofs.session.Session.arrive.Goals as goal
 
@@ -20,7 +20,7 @@ returns c =
       there = c.index_mut.ensures.value;
       is = record { name = was.name; opening = c.arrive-asked.new.self };
       asked = c.arrive-asked.result;
-      arrived = subst (λ (m : Meaning). Arrived (scripted memory_means c.args.self.now.store) m (means was.opening) (means c.arrive-asked.new.self) c.args.k c.arrive-asked.result) (sym (ap (λ (x : FaultScript MemoryStore). scripted memory_means x) c.note.ensures.store)) c.arrive-asked.ensures.arrived;
+      arrived = subst (λ (m : Meaning). Arrived (scripted memory_means c.args.self.now.store) m was.opening c.arrive-asked.new.self c.args.k c.arrive-asked.result) (sym (ap (λ (x : FaultScript MemoryStore). scripted memory_means x) c.note.ensures.store)) c.arrive-asked.ensures.arrived;
       name = refl;
       stations = c.note.ensures.stations;
       answer = refl;
