@@ -20,6 +20,7 @@ fn put_rows<T: Table>(text: &[u8], table: &mut T) -> Result<(), LoadFault>
     ensures { Begun text.now (T.Table.means table.old).held (T.Table.means table.new).held result }
 {
     let mut reader = Reader::new(text);
+    // Kept as a loop over the reader: it counts nothing, and each row stands under the reader.
     while reader.advance()? {
         table.put(reader.row())?;
     }

@@ -2,6 +2,7 @@
 use super::{RowBuf, Table, TableFault};
 use rows::RowEntry;
 
+// Kept as five calls that pass on: the language has no other way to say that a lent table is one.
 impl<T: Table> Table for &mut T {
     ghost means = { λ t. T.Table.means t.now };
 

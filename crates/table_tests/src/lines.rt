@@ -5,6 +5,7 @@ use std::process::Abort;
 use std::test::Fail;
 
 /// Puts the row of a line. Answers the number that a refusal returns.
+// Kept as an Option: a table's refusal has no equality, and the tests compare what is answered.
 pub fn put<T: Table>(table: &mut T, line: &[u8]) -> Result<Option<u64>, Fail> {
     let mut reader = Reader::new(line);
     let Ok(true) = reader.advance() else {

@@ -9,6 +9,7 @@ use rows::{Kind, RowEntry, ValueDeletable};
 
 impl RowBuf {
     /// A value without digits or ticks, under the number 0 and the empty key.
+    // Kept as the one name for it: a kind has no default, so a derived Default cannot be had.
     pub fn new() -> RowBuf
         ensures { result ≡ no_row }
     {
