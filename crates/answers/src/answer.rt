@@ -16,6 +16,8 @@ pub enum Answer {
     Read(u64, Result<usize, StoreFault>),
 }
 
+// Types around results, since a `Result` has no `Display`. Not one generic type: the two values are printed each in its own way.
+
 /// The answer of `check`.
 #[derive(Clone, Copy)]
 struct Verdict(Result<Checked, CheckFault>);

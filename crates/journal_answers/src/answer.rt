@@ -12,6 +12,7 @@ use std::fmt;
 use wal_replay::ReplayedMemtable;
 
 /// What a call answers.
+// No `Result` of what is found and a `Refusal`: that has no `Display` of its own, and would need a type around it.
 #[derive(Clone, Copy)]
 pub enum Answer {
     /// The rows of a text, their sizes, and both estimates.
