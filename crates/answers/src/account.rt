@@ -8,6 +8,7 @@ use std::fmt;
 
 /// The texts that were checked, how many rows those in order had, the calls that were made of the store, and what the
 /// store holds.
+// kept beside the journal's: the two programs close with other accounts
 #[derive(Clone, Copy, Default)]
 pub struct Account {
     texts: Tally,

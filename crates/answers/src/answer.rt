@@ -8,6 +8,7 @@ use std::fmt;
 use store::StoreFault;
 
 /// The answer of a call, with the call.
+// kept beside the journal's: the two programs print other lines
 #[derive(Clone, Copy)]
 pub enum Answer {
     Check(Result<Checked, CheckFault>),
@@ -27,14 +28,7 @@ impl fmt::Display for Verdict {
 
     fn fmt<W: fmt::Write>(&self, f: &mut fmt::Formatter<W>) -> fmt::Result {
         match self.0 {
-            Ok(
-                Checked {
-                    rows,
-                    size,
-                    wal,
-                    compacted,
-                },
-            ) => { write!(f, "rows {rows} size {size} wal {wal} compacted {compacted}") }
+            Ok(checked) => write!(f, "{checked}"),
             Err(fault) => write!(f, "refused {}", Refusal::from(fault)),
         }
     }

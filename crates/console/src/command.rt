@@ -9,6 +9,7 @@ use script::reason::Reason;
 use script::words::{Words, first_word};
 
 /// A line that the console performs.
+// kept beside the crate `commands`: a text where none belongs is told apart in other words here
 #[derive(Clone, Copy)]
 pub enum Command<'a> {
     Check(Text<'a>),

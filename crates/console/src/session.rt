@@ -16,6 +16,7 @@ mod calls;
 mod output;
 
 /// What the calls of a script work on.
+// kept beside the journal's: this console knows fewer calls, and says other things of wrong lines
 #[derive(Drop)]
 pub struct Session {
     heap: Global,

@@ -79,14 +79,7 @@ impl fmt::Display for Answer {
 
     fn fmt<W: fmt::Write>(&self, f: &mut fmt::Formatter<W>) -> fmt::Result {
         match *self {
-            Answer::Checked(
-                Checked {
-                    rows,
-                    size,
-                    wal,
-                    compacted,
-                },
-            ) => write!(f, "rows {rows} size {size} wal {wal} compacted {compacted}"),
+            Answer::Checked(checked) => write!(f, "{checked}"),
             Answer::Done => write!(f, "ok"),
             Answer::Length(length) | Answer::Text(length) => write!(f, "length {length}"),
             Answer::Loaded(

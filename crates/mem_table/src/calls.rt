@@ -27,6 +27,7 @@ pub trait Table {
         ensures { Empty (means self.now) result };
 
     /// Fills in the row at a place of the order, or says that there is none.
+    // kept: it fills a given row, so that no call of a table wants memory
     fn nth(&self, i: usize, row: &mut RowBuf) -> bool
         ensures { Nth (means self.now) i row.old row.new result };
 }

@@ -1,5 +1,5 @@
 -- What a whole text is said to have.
-use Rattle.std.specs.Prelude.{◌≡◌, ℕ, ◌⊎◌, List, [], ◌∷◌, length, Ok, Err, Result}
+use Rattle.std.specs.Prelude.{◌≡◌, ℕ, ◌⊎◌, List, [], ◌∷◌, ◌++◌, length, Ok, Err, codes, decimal, Result}
 use Rattle.causes.specs.Said.{Said, refused}
 use Rattle.rows.specs.declared.types.Damage.{Damage}
 use Rattle.rows.specs.declared.totals.Totals.{Totals}
@@ -49,3 +49,7 @@ pub record Misfits (t : List ℕ) (block : ℕ) (s : Said) : Type 0 where
 abbrev pub Checks : List ℕ → ℕ → Result Checked CheckFault → Type 0
 Checks t block (Ok x) = Estimated t block x
 Checks t block (Err e) = Damages t (fault e) ⊎ Misfits t block (fault e)
+
+-- what is printed of a text that was checked
+abbrev pub shown : Checked → List ℕ
+shown k = codes "rows " ++ (decimal k.rows ++ (codes " size " ++ (decimal k.size ++ (codes " wal " ++ (decimal k.wal ++ (codes " compacted " ++ decimal k.compacted))))))

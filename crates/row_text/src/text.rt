@@ -1,10 +1,12 @@
 //! A whole text: its rows counted and sized.
-ghost use Rattle.row_text.specs.Checks.{Checks, Totalled};
+ghost use Rattle.std.specs.Prelude.{Some};
+ghost use Rattle.row_text.specs.Checks.{Checks, Totalled, shown};
 
 use crate::fault::CheckFault;
 use rows::{
     BlockSize, Damage, Reader, Totals, estimate_encoded_size_compacted, estimate_encoded_size_wal,
 };
+use std::fmt;
 
 /// A text's rows, their sizes in all, and both estimates of a table that holds them.
 #[derive(Clone, Copy)]
@@ -13,6 +15,18 @@ pub struct Checked {
     pub size: u128,
     pub wal: u128,
     pub compacted: u128,
+}
+
+impl fmt::Display for Checked {
+    ghost output = { λ k. Some (shown k) };
+
+    fn fmt<W: fmt::Write>(&self, f: &mut fmt::Formatter<W>) -> fmt::Result {
+        write!(
+            f,
+            "rows {} size {} wal {} compacted {}",
+            self.rows, self.size, self.wal, self.compacted,
+        )
+    }
 }
 
 /// Reads a whole text.

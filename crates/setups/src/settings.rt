@@ -8,7 +8,7 @@ use crate::fresh_table::AnyTable;
 use commands::command::TableKind;
 use commands::options::Options;
 use std::alloc::{AllocError, Global};
-use tables::{ArrivalLog, SortedTable};
+use tables::{ArrivalLog, MOST_BYTES, MOST_PUTS, SortedTable};
 use wal_init::ManifestRecord;
 
 /// The options, the manifest's record, and the kind and room of tables.
@@ -34,8 +34,8 @@ impl Default for Settings {
                 last_l0_clock_tick: 0,
             },
             table: TableKind::Sorted,
-            puts: 65_536,
-            bytes: 16_777_216,
+            puts: MOST_PUTS,
+            bytes: MOST_BYTES,
         }
     }
 }

@@ -45,10 +45,7 @@ fn exact_buffer(rt: HostRuntime) -> Result<(), Fail> {
     let mut store = MemoryStore::new(rt.alloc(), 1, 3)?;
     assert_eq!(rt; store.put(u64::MAX, b"abc"), Ok(()));
     let mut short = [1u8; 2];
-    assert_eq!(rt;
-        store.read(u64::MAX, &mut short),
-        Err(StoreFault::Short(3))
-    );
+    assert_eq!(rt; store.read(u64::MAX, &mut short), Err(StoreFault::Short(3)));
     assert_eq!(rt; short, [1, 1]);
     let mut exact = [1u8; 3];
     assert_eq!(rt; store.read(u64::MAX, &mut exact), Ok(3));

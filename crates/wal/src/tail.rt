@@ -15,6 +15,7 @@ const ROUND_SIZE: usize = 8;
 const ROUNDS: u32 = 6;
 
 /// Whether an id has a file.
+// kept: three lines for three meanings, which no combinator says shorter
 fn wal_object_exists<S: Store>(store: &mut S, id: u64) -> Result<bool, StoreFault>
     ensures { Asked (S.Store.means store.old) (S.Store.means store.new) id result }
 {

@@ -11,6 +11,7 @@ use wal::WalFault;
 const MOST_ATTEMPTS: u64 = 4096;
 
 /// Puts a fence at an id, and says whether the id was free.
+// kept: the loop goes on from two answers, and each other refusal is an `Err`
 fn write_wal_fence<S: Store>(store: &mut S, id: u64) -> Result<bool, StoreFault>
     ensures { FencePut (S.Store.means store.old) (S.Store.means store.new) id result }
 {

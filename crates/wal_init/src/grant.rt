@@ -6,6 +6,7 @@ use super::record::{ManifestRecord, Options};
 use rows::BlockSize;
 
 /// The numbers of an opening whose fence was put.
+// kept: plain numbers that callers read by name; an opening takes over all but the attempts
 #[derive(Drop)]
 pub struct Grant {
     pub(crate) manifest: ManifestRecord,

@@ -1,6 +1,7 @@
 //! What an opening is given: the manifest's record and the options.
 
 /// The part of a manifest that an opening needs.
+// No more is derived: nothing compares or prints a record.
 #[derive(Clone, Copy)]
 pub struct ManifestRecord {
     /// The last id whose rows are in tables already.

@@ -2,10 +2,7 @@
 
 ghost use Rattle.std.specs.Prelude.{◌^◌, ◌≤◌};
 
-use wal::WalFault;
-
-/// The last id that a file may have, 2^62.
-const LAST_ID: u64 = 4_611_686_018_427_387_904;
+use wal::{LAST_ID, WalFault};
 
 /// An id that a file may have.
 #[derive(Clone, Copy)]

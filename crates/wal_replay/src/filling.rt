@@ -12,6 +12,7 @@ pub fn put_rows<T: Table>(table: &mut T, text: &[u8], watermark: u64)
     ensures { Puts watermark (T.Table.means table.old) (T.Table.means table.new) text.now }
 {
     let mut reader = Reader::new(text);
+    // kept: nothing is counted by hand, and the reader is asked for one row after the other
     while more(&mut reader) {
         let row = reader.row();
         if watermark < row.seq {

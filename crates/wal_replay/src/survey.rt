@@ -88,6 +88,7 @@ pub fn look_over(
         last_tick,
         last_seq,
     };
+    // kept: nothing is counted by hand, and the reader is asked for one row after the other
     while more(&mut reader) {
         seen = seen.see(watermark, reader.row());
     }

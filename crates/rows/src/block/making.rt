@@ -9,6 +9,7 @@ pub struct BadBlockSize(pub u64);
 
 impl BlockSize {
     /// The block size of so many bytes.
+    // kept: a `TryFrom` would be a second name for it
     pub fn new(bytes: u64) -> Result<BlockSize, BadBlockSize>
         ensures { Makes bytes result }
     {

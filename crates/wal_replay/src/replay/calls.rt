@@ -10,12 +10,12 @@ use super::{ReplayedMemtable, WalReplayIterator};
 use crate::ReplayFault;
 use mem_table::Table;
 use rows::{Totals, estimate_encoded_size_compacted};
-use store::{Store, StoreFault};
+use store::{MOST_BYTES, Store, StoreFault};
 use wal::WalFault;
 use wal_init::Opening;
 
 /// The length of a buffer into which every file fits.
-const BUFFER_SIZE: usize = 16384;
+const BUFFER_SIZE: usize = MOST_BYTES;
 
 impl WalReplayIterator {
     /// The replay of an opening, of which nothing was read.
@@ -100,6 +100,7 @@ impl WalReplayIterator {
         requires table { (Listed (T.Table.means table.old)) × ((T.Table.means table.old).order ≡ []) }
         ensures { Reading (S.Store.means store.old) (S.Store.means store.new) self.old self.new (T.Table.means table.old) (T.Table.means table.new) buffer.old buffer.new result }
     {
+        // kept: a flag, since no other value of the loop says whether a file was read
         let mut applied_any = false;
         loop {
             match self.take_file(store, table, buffer) {

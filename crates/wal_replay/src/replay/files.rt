@@ -92,6 +92,7 @@ impl WalReplayIterator {
     }
 
     /// Takes the file at the front; false where the fence was read.
+    // kept: no value stands beside the answer, which is false where the fence was read
     pub(super) fn take_file<S: Store, T: Table>(
         &mut self,
         store: &mut S,
