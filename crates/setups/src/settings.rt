@@ -40,6 +40,7 @@ impl Default for Settings {
     }
 }
 
+// The options of a script and of an opening are two types: neither crate knows the other.
 impl From<Settings> for wal_init::Options {
     ghost from_gives = { λ s r. r ≡ opening_options s };
 

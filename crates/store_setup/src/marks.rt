@@ -42,6 +42,7 @@ pub fn marks_of(heap: Global, words: Words<'_>) -> Result<Vec<Mark>, Stop>
     let mut marks = Vec::new(heap);
     for word in words {
         let mark = mark_of(word)?;
+        // No `?` here: the error gives the mark back, and would need a conversion of its own.
         if marks.push(mark).is_err() {
             return Err(Stop::NoMemory);
         }

@@ -1,5 +1,5 @@
 use Rattle.std.proofs.Common.{sym, refl, ◌∙◌, arith, rules}
-use Rattle.script.proofs.Lining.{line_shorter, lines_first}
+use Rattle.script.proofs.Lining.{lines_first}
 use Rattle.script.proofs.Reading.{found, passed}
 use Rattle.script.proofs.script.Script.call_line.Goals as goal
 
@@ -8,9 +8,6 @@ returns-then-not-is_idle c =
     let took = c.in-Some.ensures in
     let f = found _ _ _ (lines_first _ _ _ took.0) (search rules) in
     (sym c.loop-bytes.invariant.0 ∙ f.0, omega (arith, took.1, c.loop-bytes.invariant.1, f.1), refl)
-
-pub loop-bytes-smaller : goal.loop-bytes-smaller
-loop-bytes-smaller c = line_shorter _ _ _ c.in-Some.ensures.0
 
 pub loop-bytes-preserved : goal.loop-bytes-preserved
 loop-bytes-preserved c =
