@@ -1,13 +1,13 @@
 -- The options of a script.
 use Rattle.std.specs.Prelude.{◌≡◌, ℕ, ◌⊎◌, List, [], ◌∷◌, ◌++◌, Some, None, Ok, Err, codes, Option, Result, ◌≢◌}
 use Rattle.std.specs.Borrow.{Bor}
+use Rattle.std.specs.Option.{unwrap_or}
 use Rattle.script.specs.declared.reason.Reason.{Reason}
 use Rattle.script.specs.declared.reason.Reason.TheVariants.{UnknownOption}
 use Rattle.commands.specs.declared.options.Key.{Key}
 use Rattle.commands.specs.declared.options.Key.TheVariants as key
 use Rattle.commands.specs.declared.options.Options.{Options}
 use Rattle.commands.specs.declared.options.Setting.{Setting}
-use Rattle.commands.specs.declared.options.Setting.TheVariants.{SstBatchSize, MaxWalBytesSize, MaxMemtableBytes, BlockSize, MinSeq}
 use Rattle.commands.specs.Arguments.{NumberIs}
 
 abbrev pub defaults : Options
@@ -44,34 +44,22 @@ ValueIs key.MaxMemtableBytes v r = Amount v r
 ValueIs key.BlockSize v r = Amount v r
 ValueIs key.MinSeq v r = ((v ≡ codes "-") × (r ≡ Ok None)) ⊎ ((v ≢ codes "-") × Amount v r)
 
--- the option that a setting sets, and to what
-abbrev pub key_of : Setting → Key
-key_of (SstBatchSize n) = key.SstBatchSize
-key_of (MaxWalBytesSize n) = key.MaxWalBytesSize
-key_of (MaxMemtableBytes n) = key.MaxMemtableBytes
-key_of (BlockSize n) = key.BlockSize
-key_of (MinSeq v) = key.MinSeq
-
-abbrev pub value_of : Setting → Option ℕ
-value_of (SstBatchSize n) = Some n
-value_of (MaxWalBytesSize n) = Some n
-value_of (MaxMemtableBytes n) = Some n
-value_of (BlockSize n) = Some n
-value_of (MinSeq v) = v
-
 -- what a word sets: an option's name and its value
 abbrev pub Sets : List ℕ → Result Setting Reason → Type 0
-Sets w (Ok s) = (v : List ℕ) × (w ≡ key_word (key_of s) ++ v) × ValueIs (key_of s) v (Ok (value_of s))
+Sets w (Ok s) = (v : List ℕ) × (w ≡ key_word s.key ++ v) × ValueIs s.key v (Ok s.value)
 Sets w (Err e) = (((k : Key) (v : List ℕ) → w ≢ key_word k ++ v) × (e ≡ UnknownOption))
     ⊎ ((k : Key) × (v : List ℕ) × (w ≡ key_word k ++ v) × ValueIs k v (Err e))
 
 -- the options with one set
+abbrev pub put : Options → Key → Option ℕ → Options
+put o key.SstBatchSize v = record { sst_batch_size = unwrap_or v o.sst_batch_size; max_wal_bytes_size = o.max_wal_bytes_size; max_memtable_bytes = o.max_memtable_bytes; block_size = o.block_size; min_seq = o.min_seq }
+put o key.MaxWalBytesSize v = record { sst_batch_size = o.sst_batch_size; max_wal_bytes_size = unwrap_or v o.max_wal_bytes_size; max_memtable_bytes = o.max_memtable_bytes; block_size = o.block_size; min_seq = o.min_seq }
+put o key.MaxMemtableBytes v = record { sst_batch_size = o.sst_batch_size; max_wal_bytes_size = o.max_wal_bytes_size; max_memtable_bytes = unwrap_or v o.max_memtable_bytes; block_size = o.block_size; min_seq = o.min_seq }
+put o key.BlockSize v = record { sst_batch_size = o.sst_batch_size; max_wal_bytes_size = o.max_wal_bytes_size; max_memtable_bytes = o.max_memtable_bytes; block_size = unwrap_or v o.block_size; min_seq = o.min_seq }
+put o key.MinSeq v = record { sst_batch_size = o.sst_batch_size; max_wal_bytes_size = o.max_wal_bytes_size; max_memtable_bytes = o.max_memtable_bytes; block_size = o.block_size; min_seq = v }
+
 abbrev pub with : Options → Setting → Options
-with o (SstBatchSize n) = record { sst_batch_size = n; max_wal_bytes_size = o.max_wal_bytes_size; max_memtable_bytes = o.max_memtable_bytes; block_size = o.block_size; min_seq = o.min_seq }
-with o (MaxWalBytesSize n) = record { sst_batch_size = o.sst_batch_size; max_wal_bytes_size = n; max_memtable_bytes = o.max_memtable_bytes; block_size = o.block_size; min_seq = o.min_seq }
-with o (MaxMemtableBytes n) = record { sst_batch_size = o.sst_batch_size; max_wal_bytes_size = o.max_wal_bytes_size; max_memtable_bytes = n; block_size = o.block_size; min_seq = o.min_seq }
-with o (BlockSize n) = record { sst_batch_size = o.sst_batch_size; max_wal_bytes_size = o.max_wal_bytes_size; max_memtable_bytes = o.max_memtable_bytes; block_size = n; min_seq = o.min_seq }
-with o (MinSeq v) = record { sst_batch_size = o.sst_batch_size; max_wal_bytes_size = o.max_wal_bytes_size; max_memtable_bytes = o.max_memtable_bytes; block_size = o.block_size; min_seq = v }
+with o s = put o s.key s.value
 
 -- the words set options one after another, a later setting over an earlier one; the first that does not is the fault
 abbrev pub Changed : List (List ℕ) → Options → Result Options Reason → Type 0

@@ -1,6 +1,6 @@
 //! The options of a script and how a line changes them.
 ghost use Rattle.std.specs.Prelude.{◌≡◌, ◌≢◌, MatchResult};
-ghost use Rattle.commands.specs.Settings.{Assigns, Changed, Sets, defaults, key_name, with};
+ghost use Rattle.commands.specs.Settings.{Assigns, Changed, Sets, ValueIs, defaults, key_name, with};
 ghost use Rattle.commands.specs.declared.options.Key.{Key as TheKey};
 ghost use Rattle.script.specs.declared.reason.Reason.TheVariants.{UnknownOption};
 ghost use Rattle.script.specs.Words.{listed};
@@ -31,13 +31,11 @@ pub enum Key {
 }
 
 /// One option with its new value, of which only the least number may be none.
+// kept: `with` takes any key with any value, and a type that holds fewer would ask more of its callers
 #[derive(Clone, Copy)]
-pub enum Setting {
-    SstBatchSize(u64),
-    MaxWalBytesSize(u64),
-    MaxMemtableBytes(u64),
-    BlockSize(u64),
-    MinSeq(Option<u64>),
+pub struct Setting {
+    pub key: Key,
+    pub value: Option<u64>,
 }
 
 impl TryFrom<&[u8]> for Key {
@@ -67,22 +65,23 @@ fn assignment_of(word: &[u8]) -> Result<(Key, &[u8]), Reason>
     Ok((Key::try_from(name)?, value))
 }
 
+/// The value that a word gives an option.
+fn value_of(key: Key, word: &[u8]) -> Result<Option<u64>, Reason>
+    ensures { ValueIs key word.now result }
+{
+    match (key, word) {
+        (Key::MinSeq, b"-") => Ok(None),
+        _ => Ok(Some(as_number(word)?)),
+    }
+}
+
 /// Reads a word as a setting.
 fn setting_of(word: &[u8]) -> Result<Setting, Reason>
     ensures { Sets word.now result }
 {
-    let (key, value) = assignment_of(word)?;
-    if let (Key::MinSeq, b"-") = (key, value) {
-        return Ok(Setting::MinSeq(None));
-    }
-    let number = as_number(value)?;
-    Ok(match key {
-        Key::SstBatchSize => Setting::SstBatchSize(number),
-        Key::MaxWalBytesSize => Setting::MaxWalBytesSize(number),
-        Key::MaxMemtableBytes => Setting::MaxMemtableBytes(number),
-        Key::BlockSize => Setting::BlockSize(number),
-        Key::MinSeq => Setting::MinSeq(Some(number)),
-    })
+    let (key, word) = assignment_of(word)?;
+    let value = value_of(key, word)?;
+    Ok(Setting { key, value })
 }
 
 impl Default for Options {
@@ -105,21 +104,28 @@ impl Options {
     pub fn with(self, setting: Setting) -> Options
         ensures { result ≡ with self setting }
     {
-        match setting {
-            Setting::SstBatchSize(sst_batch_size) => Options {
-                sst_batch_size,
+        let value = setting.value;
+        match setting.key {
+            Key::SstBatchSize => Options {
+                sst_batch_size: value.unwrap_or(self.sst_batch_size),
                 ..self
             },
-            Setting::MaxWalBytesSize(max_wal_bytes_size) => Options {
-                max_wal_bytes_size,
+            Key::MaxWalBytesSize => Options {
+                max_wal_bytes_size: value.unwrap_or(self.max_wal_bytes_size),
                 ..self
             },
-            Setting::MaxMemtableBytes(max_memtable_bytes) => Options {
-                max_memtable_bytes,
+            Key::MaxMemtableBytes => Options {
+                max_memtable_bytes: value.unwrap_or(self.max_memtable_bytes),
                 ..self
             },
-            Setting::BlockSize(block_size) => Options { block_size, ..self },
-            Setting::MinSeq(min_seq) => Options { min_seq, ..self },
+            Key::BlockSize => Options {
+                block_size: value.unwrap_or(self.block_size),
+                ..self
+            },
+            Key::MinSeq => Options {
+                min_seq: value,
+                ..self
+            },
         }
     }
 

@@ -1,5 +1,5 @@
 -- Names of stations.
-use Rattle.std.specs.Prelude.{◌≡◌, ℕ, ◌<◌, ◌≤◌, ◌⊎◌, List, length, Some, None, Option, slice_index}
+use Rattle.std.specs.Prelude.{◌≡◌, ℕ, ◌<◌, ◌≤◌, ◌⊎◌, List, length, take, Some, None, Option, slice_index}
 use Rattle.std.specs.Int.{IsInRange}
 use Rattle.stations.specs.declared.name.Name.{Name}
 
@@ -16,7 +16,7 @@ Nameable w = (0 < length w) × (length w ≤ 16) × AllSigns w
 
 -- the letters and digits of a name
 abbrev pub spelled : Name → List ℕ
-spelled n = n.letters.items
+spelled n = take n.len n.bytes
 
 abbrev pub NameOf : List ℕ → Option Name → Type 0
 NameOf w (Some n) = Nameable w × (spelled n ≡ w)
