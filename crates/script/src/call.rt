@@ -87,3 +87,15 @@ impl<'a> Script<'a> {
         Ok(Some(Call { line, words, text }))
     }
 }
+
+#[cfg(test)]
+mod tests {
+    use super::*;
+
+    #[test]
+    fn digits_as_bytes(rt: HostRuntime) {
+        let mut buffer = Vec::new(rt.alloc());
+        assert!(rt; matches!(Text::Hex(b"00ff").bytes(&mut buffer), Ok([0, 255])));
+        assert!(rt; matches!(Text::Lines(b"ab").bytes(&mut buffer), Ok(b"ab")));
+    }
+}

@@ -13,14 +13,23 @@ pub enum NumberFault {
     TooLarge,
 }
 
+impl NumberFault {
+    /// The fault in plain words.
+    pub fn words(self) -> &'static str
+        ensures { result.now ≡ fault self }
+    {
+        match self {
+            NumberFault::NotNumber => "not a number",
+            NumberFault::TooLarge => "number too large",
+        }
+    }
+}
+
 impl fmt::Display for NumberFault {
     ghost output = { λ f. Some (fault f) };
 
     fn fmt<W: fmt::Write>(&self, f: &mut fmt::Formatter<W>) -> fmt::Result {
-        f.write_str(match self {
-            NumberFault::NotNumber => "not a number",
-            NumberFault::TooLarge => "number too large",
-        })
+        f.write_str(self.words())
     }
 }
 

@@ -41,11 +41,12 @@ impl From<NumberFault> for Reason {
     }
 }
 
-impl fmt::Display for Reason {
-    ghost output = { λ x. Some (reason x) };
-
-    fn fmt<W: fmt::Write>(&self, f: &mut fmt::Formatter<W>) -> fmt::Result {
-        let words = match self {
+impl Reason {
+    /// The reason in plain words.
+    pub fn words(self) -> &'static str
+        ensures { result.now ≡ reason self }
+    {
+        match self {
             Reason::UnknownCommand => "unknown command",
             Reason::WrongWords => "wrong number of words",
             Reason::NoText => "no text",
@@ -60,9 +61,16 @@ impl fmt::Display for Reason {
             Reason::NotName => "not a name",
             Reason::NameTaken => "name taken",
             Reason::UnknownStation => "unknown station",
-            Reason::Number(number) => return write!(f, "{number}"),
-        };
-        f.write_str(words)
+            Reason::Number(number) => number.words(),
+        }
+    }
+}
+
+impl fmt::Display for Reason {
+    ghost output = { λ x. Some (reason x) };
+
+    fn fmt<W: fmt::Write>(&self, f: &mut fmt::Formatter<W>) -> fmt::Result {
+        f.write_str(self.words())
     }
 }
 

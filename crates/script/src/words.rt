@@ -1,7 +1,8 @@
 //! The words of a line, one by one.
 ghost use Rattle.std.specs.Prelude.{◌≡◌, ◌∷◌};
 ghost use Rattle.std.specs.Iterator.{YieldsFirstRef, item_count};
-ghost use Rattle.script.specs.Words.{Worded, listed, words};
+ghost use Rattle.std.specs.Option.{option_map};
+ghost use Rattle.script.specs.Words.{Worded, listed, others, words};
 
 use crate::parts::split_once;
 
@@ -9,6 +10,14 @@ use crate::parts::split_once;
 #[derive(Clone, Copy)]
 pub struct Words<'a> {
     line: Option<&'a [u8]>,
+}
+
+impl<'a> From<Option<&'a [u8]>> for Words<'a> {
+    ghost from_gives = { λ line r. listed r ≡ others (option_map (λ x. x.now) line) };
+
+    fn from(line: Option<&'a [u8]>) -> Words<'a> {
+        Words { line }
+    }
 }
 
 /// The first word of a line, and the words behind it.

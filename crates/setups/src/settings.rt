@@ -74,3 +74,23 @@ impl Settings {
         })
     }
 }
+
+#[cfg(test)]
+mod tests {
+    use super::*;
+    use mem_table::Table;
+    use std::test::Fail;
+
+    #[test]
+    fn both_kinds(rt: HostRuntime) -> Result<(), Fail> {
+        let mut settings = Settings {
+            puts: 2,
+            bytes: 3,
+            ..Settings::default()
+        };
+        assert_eq!(rt; settings.fresh_table(rt.alloc())?.room(), (2, 3));
+        settings.table = TableKind::Log;
+        assert_eq!(rt; settings.fresh_table(rt.alloc())?.room(), (2, 3));
+        Ok(())
+    }
+}

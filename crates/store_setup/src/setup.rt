@@ -90,3 +90,27 @@ impl StoreSetup {
         )
     }
 }
+
+#[cfg(test)]
+mod tests {
+    use super::*;
+    use std::test::Fail;
+    use store::Store;
+
+    #[test]
+    fn set_until_a_call(rt: HostRuntime) -> Result<(), Fail> {
+        let mut setup = StoreSetup::new(rt.alloc())?;
+        assert!(rt; setup.set_room(1, 3).is_ok());
+        assert!(rt;
+            setup
+                .set_marks(Words::from(Some(b"lost fair".as_slice())))
+                .is_ok()
+        );
+        assert!(rt; setup.store.put(1, b"abc").is_err());
+        assert!(rt; setup.store.put(1, b"abc").is_ok());
+        assert_eq!(rt; setup.taken(), (1, 3));
+        setup.begun = true;
+        assert!(rt; setup.set_room(2, 2).is_err());
+        Ok(())
+    }
+}
