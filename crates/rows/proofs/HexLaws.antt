@@ -33,18 +33,21 @@ more_digits p b l all i lt =
     (λ h. let e : length p ≡ i = omega (arith, simp length-append at lt) in ap hex_digit (get_or_at p b [] 0 i e) ∙ l)
     (order i (length p))
 
--- what ends at the first byte that is no digit, and after `most` at the latest
-pub run : (most : ℕ) (t : List ℕ) (first : Option ℕ) (m : ℕ) → MatchOption first (AllWithin (λ b. hex_digit b ≡ true) t 0 (length t)) (λ i. (i < length t) × HoldsAt (λ b. hex_digit b ≡ false) t i × AllWithin (λ b. hex_digit b ≡ true) t 0 i) → m ≡ min (unwrap_or first (length t)) most → (m ≤ length t) × SoFar most (take m t) × (m < length t → hex_digit (get_or t m 0) ≡ true → m < most → ⊥)
-run most t None m all e = (
-  omega arith,
-  record { short = omega (arith, length-take m t); digits = λ i lt. ap hex_digit (get_or-take m t i 0 (omega (arith, length-take m t))) ∙ all i 0 (omega arith) (omega (arith, length-take m t)) },
-  λ lt d less. omega arith,
-)
-run most t (Some n) m (lt, bad, all) e = (
-  omega arith,
-  record { short = omega (arith, length-take m t); digits = λ i lt. ap hex_digit (get_or-take m t i 0 (omega (arith, length-take m t))) ∙ all i 0 (omega arith) (omega (arith, length-take m t)) },
-  λ lt d less. let s : m ≡ n = omega arith in false≢true (sym (bad 0) ∙ ap (λ k. hex_digit (get_or t k 0)) (sym s) ∙ d),
-)
+-- what ends at the first byte of `most` that is no digit, or behind them
+pub run : (most : ℕ) (t f : List ℕ) (first : Option ℕ) (m : ℕ) → f ≡ take (min (length t) most) t → MatchOption first (AllWithin (λ b. hex_digit b ≡ true) f 0 (length f)) (λ i. (i < length f) × HoldsAt (λ b. hex_digit b ≡ false) f i × AllWithin (λ b. hex_digit b ≡ true) f 0 i) → m ≡ unwrap_or first (length f) → (m ≤ length t) × SoFar most (take m t) × (m < length t → hex_digit (get_or t m 0) ≡ true → m < most → ⊥)
+run most t f None m cut all e =
+    let long : length f ≡ min (length t) most = ap length cut ∙ length-take-le (min (length t) most) t (omega arith) in (
+      omega arith,
+      record { short = omega (arith, length-take m t); digits = λ i lt. ap hex_digit (get_or-take m t i 0 (omega (arith, length-take m t)) ∙ sym (ap (λ l. get_or l i 0) cut ∙ get_or-take (min (length t) most) t i 0 (omega (arith, length-take m t)))) ∙ all i 0 (omega arith) (omega (arith, length-take m t)) },
+      λ lt d less. omega arith,
+    )
+run most t f (Some n) m cut (lt, bad, all) e =
+    let long : length f ≡ min (length t) most = ap length cut ∙ length-take-le (min (length t) most) t (omega arith) in
+    let same : (i : ℕ) → i < length f → get_or f i 0 ≡ get_or t i 0 = λ i h. ap (λ l. get_or l i 0) cut ∙ get_or-take (min (length t) most) t i 0 (omega arith) in (
+      omega arith,
+      record { short = omega (arith, length-take m t); digits = λ i l. ap hex_digit (get_or-take m t i 0 (omega (arith, length-take m t)) ∙ sym (same i (omega (arith, length-take m t)))) ∙ all i 0 (omega arith) (omega (arith, length-take m t)) },
+      λ l d less. let s : m ≡ n = omega arith in false≢true (sym (bad 0) ∙ ap hex_digit (same n lt) ∙ ap (λ k. hex_digit (get_or t k 0)) (sym s) ∙ d),
+    )
 
 module _ (most end : ℕ) (even : most % 2 ≡ 0) (mark : end < 48) where
   abbrev L : List ℕ → Type 0

@@ -6,8 +6,8 @@ use Rattle.std.proofs.lemmas.Bool.{ne_eqb, cond_both, cond-false}
 use Rattle.std.proofs.str.Laws.{order}
 use Rattle.std.specs.List.{filter}
 use Rattle.rows.specs.declared.types.Damage.{Damage}
-use Rattle.rows.specs.Rows.{Row, Valid}
-use Rattle.rows.specs.Lines.{line, WellFormed, Longest, ends}
+use Rattle.rows.specs.Rows.{Row, Valid, PartOf}
+use Rattle.rows.specs.Lines.{line, letter, tick, WellFormed, Longest, ends}
 use Rattle.rows.specs.Grammar.{Lang, FieldAt, DamageAt}
 use Rattle.rows.specs.Fields.{values, Line}
 use Rattle.rows.specs.Reading.{Handed, Reported}
@@ -46,6 +46,26 @@ module _ (t : List ℕ) (p : ℕ) where
   reported q d lt bad at on rows h =
       let b = text_damage t p q rows lt h bad in
       record { bad = b.1; place = subst (Longest WellFormed t) (sym at) b.0; line = on ∙ ap (λ k. ends (take k t) + 1) (sym at) }
+
+-- key and value stand in the text in which a row's line stands
+abbrev to_key : Row → List ℕ
+to_key r = decimal r.seq ++ (9 ∷ letter r.kind ∷ 9 ∷ (tick r.created ++ (9 ∷ (tick r.expires ++ (9 ∷ [])))))
+
+pub key_in : (t : List ℕ) (p q : ℕ) (r : Row) → Handed t p q r → PartOf t r.key
+key_in t p q r h =
+    record {
+      before = take p t ++ to_key r;
+      behind = 9 ∷ (r.value ++ (10 ∷ drop q t));
+      whole = sym (take-append-drop p t) ∙ ap (λ l. take p t ++ l) h.text ∙ simp append_assoc refl;
+    }
+
+pub value_in : (t : List ℕ) (p q : ℕ) (r : Row) → Handed t p q r → PartOf t r.value
+value_in t p q r h =
+    record {
+      before = take p t ++ (to_key r ++ (r.key ++ (9 ∷ [])));
+      behind = 10 ∷ drop q t;
+      whole = sym (take-append-drop p t) ∙ ap (λ l. take p t ++ l) h.text ∙ simp append_assoc refl;
+    }
 
 -- line ends of a text
 ends_le : (bs : List ℕ) → ends bs ≤ length bs

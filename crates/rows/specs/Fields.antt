@@ -1,7 +1,6 @@
 -- The six fields of a line, each with the byte that ends it.
-use Rattle.std.specs.Prelude.{◌≡◌, ℕ, ◌+◌, ◌-◌, ◌*◌, ◌^◌, ◌<◌, ◌≤◌, Bool, true, ◌⊎◌, List, [], ◌∷◌, ◌++◌, ℤ, Ok, Err, decimal, Option, Result, ◌≢◌}
+use Rattle.std.specs.Prelude.{◌≡◌, ℕ, ◌+◌, ◌-◌, ◌*◌, ◌^◌, ◌<◌, ◌≤◌, Bool, true, ◌⊎◌, List, [], ◌∷◌, ◌++◌, ℤ, decimal, Option}
 use Rattle.rows.specs.declared.types.Kind.{Kind}
-use Rattle.rows.specs.declared.types.UnknownKind.{UnknownKind}
 use Rattle.rows.specs.Rows.{Row, Hex, fits, room}
 use Rattle.rows.specs.Lines.{letter, tick}
 use Rattle.rows.specs.Grammar.{Then}
@@ -62,8 +61,3 @@ pub record Follows (low top n : ℕ) (first : Bool) (b : ℕ) : Type 0 where
   pub lead : (first ≡ true) ⊎ (0 < n)
   pub above : low ≤ n * 10 + (b - 48)
   pub below : n * 10 + (b - 48) ≤ top
-
--- the kind that a letter stands for, or a letter that stands for none
-abbrev pub ReadsKind : ℕ → Result Kind UnknownKind → Type 0
-ReadsKind b (Ok k) = b ≡ letter k
-ReadsKind b (Err e) = (e.0 ≡ b) × ((k : Kind) → b ≢ letter k)

@@ -1,9 +1,10 @@
 -- The text of rows, and what damage is.
-use Rattle.std.specs.Prelude.{◌≡◌, ℕ, ◌+◌, ◌<◌, ◌≤◌, cond, List, [], ◌∷◌, ◌++◌, length, take, ℤ, Some, None, decimal, Option, ◌==◌}
+use Rattle.std.specs.Prelude.{◌≡◌, ℕ, ◌+◌, ◌<◌, ◌≤◌, cond, List, [], ◌∷◌, ◌++◌, length, take, ℤ, Some, None, Ok, Err, decimal, Option, Result, ◌==◌, ◌≢◌}
 use Rattle.std.specs.List.{flat_map, AllByRecursion}
 use Rattle.std.specs.Fmt.{signed_decimal}
 use Rattle.rows.specs.declared.types.Kind.{Kind}
 use Rattle.rows.specs.declared.types.Kind.TheVariants.{Value, Merge, Tombstone}
+use Rattle.rows.specs.declared.types.UnknownKind.{UnknownKind}
 use Rattle.rows.specs.declared.types.Damage.{Damage}
 use Rattle.rows.specs.Rows.{Row, Valid}
 
@@ -12,6 +13,11 @@ abbrev pub letter : Kind → ℕ
 letter Value = 86
 letter Merge = 77
 letter Tombstone = 84
+
+-- the kind that a letter stands for, or a letter that stands for none
+abbrev pub ReadsKind : ℕ → Result Kind UnknownKind → Type 0
+ReadsKind b (Ok k) = b ≡ letter k
+ReadsKind b (Err e) = (e.0 ≡ b) × ((k : Kind) → b ≢ letter k)
 
 -- a tick is decimal, a lone minus where there is none
 abbrev pub tick : Option ℤ → List ℕ

@@ -1,5 +1,5 @@
 -- What a row is.
-use Rattle.std.specs.Prelude.{◌≡◌, ℕ, ◌%◌, ◌^◌, ◌<◌, ◌≤◌, Bool, true, ◌&&◌, ◌||◌, List, [], length, ℤ, Some, None, Option, nat_le, nat_lt, slice_index}
+use Rattle.std.specs.Prelude.{◌≡◌, ℕ, ◌%◌, ◌^◌, ◌<◌, ◌≤◌, Bool, true, ◌&&◌, ◌||◌, List, [], ◌++◌, length, ℤ, Some, None, Option, nat_le, nat_lt, slice_index}
 use Rattle.std.specs.Int.Signed.{mag}
 use Rattle.rows.specs.declared.types.Kind.{Kind}
 use Rattle.rows.specs.declared.types.Kind.TheVariants.{Value as KValue, Merge as KMerge, Tombstone as KTombstone}
@@ -61,3 +61,9 @@ pub record Valid (r : Row) : Type 0 where
   pub expires : fits r.expires ≡ true
   pub key : Hex 128 r.key
   pub value : Hex (room r.kind) r.value
+
+-- p stands somewhere in t
+pub record PartOf (t p : List ℕ) : Type 0 where
+  pub before : List ℕ
+  pub behind : List ℕ
+  pub whole : t ≡ before ++ (p ++ behind)

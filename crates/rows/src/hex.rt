@@ -19,8 +19,10 @@ pub(crate) fn read_hex(text: &[u8], most: usize, end: u8) -> Result<(&[u8], &[u8
     requires mark { end < 48 }
     ensures { ReadAs bytes (HexField most end) text.now result }
 {
-    let ends = text.iter().position(|b| !is_hex(*b));
-    let (digits, rest) = text.split_at(ends.unwrap_or(text.len()).min(most));
+    // No more digits than may stand here are looked at, however many there are.
+    let field = &text[..text.len().min(most)];
+    let ends = field.iter().position(|b| !is_hex(*b));
+    let (digits, rest) = text.split_at(ends.unwrap_or(field.len()));
     match rest {
         [b, rest @ ..] if *b == end && digits.len() % 2 == 0 => Ok((digits, rest)),
         _ => Err(rest),

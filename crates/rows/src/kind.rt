@@ -1,8 +1,8 @@
 //! The kind of a row and its letter.
 ghost use Rattle.std.specs.Prelude.{◌≡◌, ◌%◌};
-ghost use Rattle.rows.specs.Fields.{KindField, ReadsKind};
+ghost use Rattle.rows.specs.Fields.{KindField};
 ghost use Rattle.rows.specs.Grammar.{ReadAs, same};
-ghost use Rattle.rows.specs.Lines.{letter};
+ghost use Rattle.rows.specs.Lines.{ReadsKind, letter};
 ghost use Rattle.rows.specs.Rows.{room};
 
 use crate::types::{Kind, UnknownKind};

@@ -1,5 +1,6 @@
 //! A reader of the rows of a text.
 ghost use Rattle.std.specs.Prelude.{◌≤◌, length};
+ghost use Rattle.rows.specs.Rows.{PartOf, digits_of};
 
 use crate::entry::RowEntry;
 
@@ -13,4 +14,6 @@ pub struct Reader<'a> {
     place: usize,
     row: RowEntry<'a>,
     ghost stands: { place ≤ length text.now },
+    ghost key_part: { ∥ PartOf text.now row.key.now ∥₁ },
+    ghost value_part: { ∥ PartOf text.now (digits_of row.value) ∥₁ },
 }
