@@ -1,12 +1,7 @@
 -- What stands at a place of an ordered index, and what that says of the places around it.
-use Rattle.std.proofs.Common.{◌≡◌, ℕ, zero, suc, ◌<◌, ◌≤◌, List, [], ◌∷◌, length, get_or, MatchResult, Ok, Err, Result, Some, None, sym, refl, ap, ◌∙◌, ⊎_elim, arith}
-use Rattle.std.specs.List.Sorted.{IsSearchInRange, IsBinarySearchResult, IsNonDecreasingBy}
-use Rattle.std.specs.Ordering.{nat_cmp, ordering_index}
-use Rattle.std.proofs.lemmas.Cmp.{ranked}
+use Rattle.std.proofs.Common.{◌≡◌, ℕ, zero, suc, ◌+◌, ◌<◌, ◌≤◌, List, [], ◌∷◌, length, get_or, Some, None, sym, refl, ap, ◌∙◌, ⊎_elim, arith}
 use Rattle.std.proofs.lemmas.List.{get_or_default}
-use Rattle.std.proofs.lemmas.List.Sorted.{IsNonDecreasingBy-from_default}
 use Rattle.std.proofs.lemmas.Bool.{cases_lt, eq-eqb, ne_eqb, cond-true, cond-false}
-use Rattle.std.proofs.lemmas.Bool.Decides.{nat_tests}
 use Rattle.store.specs.declared.extent.Extent.{Extent}
 use Rattle.store.specs.Index.{extent_of, none, Ascending, Parted, Present, Absent}
 
@@ -35,27 +30,33 @@ ascends es up i j d b l =
     let q : (get_or es j d).id ≡ (get_or es j none).id = ap id_of (get_or_default es j d none l) in
     omega (arith, up i j b l)
 
-absent : (es : List Extent) (id n : ℕ) → Parted es id n → Absent es id n
+module _ (es : List Extent) (up : Ascending es) (id n : ℕ) (o : Extent) (l : n < length es) where
+  same : (d : Extent) → (get_or es n d).id ≡ (get_or es n o).id
+  same d = ap id_of (get_or_default es n d o l)
+
+  pub present : (get_or es n o).id ≡ id → Present es id n
+  present e =
+      let s : (get_or es n none).id ≡ id = same none ∙ e in
+      record { bound = l; here = listed es id n none l (λ k b q. (let r = ascends es up k n none b l in omega arith)) s }
+
+  pub smaller_so_far : (get_or es n o).id < id → (k : ℕ) (d : Extent) → k < n + 1 → (get_or es k d).id < id
+  smaller_so_far h k d b =
+      let s = same d in
+      ⊎_elim
+      (λ (a : k < n). (let r = ascends es up k n d a l in omega arith))
+      (λ (a : n ≤ k). (let q : k ≡ n = omega arith in rw q (omega arith)))
+      (cases_lt k n)
+
+  pub greater_from_here : id < (get_or es n o).id → (k : ℕ) (d : Extent) → n ≤ k → k < length es → id < (get_or es k d).id
+  greater_from_here h k d b m =
+      let s = same d in
+      ⊎_elim
+      (λ (a : n < k). (let r = ascends es up n k d a m in omega arith))
+      (λ (a : k ≤ n). (let q : k ≡ n = omega arith in rw q (omega arith)))
+      (cases_lt n k)
+
+pub absent : (es : List Extent) (id n : ℕ) → Parted es id n → Absent es id n
 absent es id n p =
     let apart : (k : ℕ) (d : Extent) → k < length es → (get_or es k d).id ≡ id → ⊥ = λ k d l e.
     ⊎_elim (λ (a : k < n). (let r = p.smaller k d a in omega arith)) (λ (a : n ≤ k). (let r = p.greater k d a l in omega arith)) (cases_lt k n) in
     record { parted = p; nowhere = unlisted es id apart }
-
-module _ (es : List Extent) (up : Ascending es) (id : ℕ) where
-  -- the comparisons with an id rise along the index, as a binary search asks
-  comparisons_rise : IsNonDecreasingBy (λ e. ordering_index (nat_cmp e.id id)) es
-  comparisons_rise = IsNonDecreasingBy-from_default (λ e. ordering_index (nat_cmp e.id id)) es none (λ i j le in_range.
-      let rise : (get_or es i none).id ≤ (get_or es j none).id = grind (arith, up i j, λ (same : i ≡ j). ap (λ (k : ℕ). (get_or es k none).id) same) in
-      grind (arith, nat_tests))
-
-  -- a binary search ends at the id, or where it would stand
-  pub searched : (r : Result ℕ ℕ) → IsSearchInRange r (length es) → IsBinarySearchResult (λ e. nat_cmp e.id id) es r → MatchResult r (Present es id) (Absent es id)
-  searched (Ok n) bound equal =
-      let here : (get_or es n none).id ≡ id = ranked _ id _ (sym (equal none)) in
-      record { bound = bound; here = listed es id n none bound (λ k b q. (let r = ascends es up k n none b bound in omega arith)) here }
-  searched (Err n) bound parted =
-      absent es id n (record {
-        bound = bound;
-        smaller = λ k d b. ranked _ id _ (sym ((parted comparisons_rise).0 k d (omega arith) b));
-        greater = λ k d b l. ranked _ id _ (sym ((parted comparisons_rise).1 k d b l));
-      })

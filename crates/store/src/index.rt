@@ -5,6 +5,7 @@ ghost use Rattle.store.specs.Index.{extent_of, Ascending, Present, Absent};
 
 use super::extent::Extent;
 use std::alloc::{AllocError, Global};
+use std::cmp::Ordering;
 
 /// Extents in the order of their ids.
 // A sorted vector, since a map would ask for memory in a call: here it is all reserved at the making.
@@ -28,7 +29,18 @@ impl Index {
     pub(crate) fn locate(&self, id: u64) -> Result<usize, usize>
         ensures { MatchResult result (λ n. Present self.now.extents.items id n) (λ n. Absent self.now.extents.items id n) }
     {
-        self.extents.binary_search_by_key(&id, |extent| extent.id)
+        // A loop of our own, which ends at the id: the library's search goes on to the end.
+        let mut low = 0;
+        let mut high = self.extents.len();
+        while low < high {
+            let middle = low + (high - low) / 2;
+            match self.extents[middle].id.cmp(&id) {
+                Ordering::Equal => return Ok(middle),
+                Ordering::Less => low = middle + 1,
+                Ordering::Greater => high = middle,
+            }
+        }
+        Err(low)
     }
 
     /// The extent of an id.

@@ -1,9 +1,6 @@
 //! A store whose calls go as a script of marks says.
 
-ghost use Rattle.std.specs.Prelude.{◌≡◌, take};
-ghost use Rattle.store.specs.Calls.{Put, Head, Read};
-ghost use Rattle.store.specs.Marks.{next_mark, one_used};
-ghost use Rattle.store.specs.Scripted.{marks_left, scripted, ScriptedPut, ScriptedHead, ScriptedRead};
+ghost use Rattle.std.specs.Prelude.{◌≤◌, length};
 
 use super::{Mark, Store, StoreFault};
 use arrayvec::{ArrayVec, IntoIter};
@@ -17,9 +14,14 @@ const LIMIT: usize = 64;
 pub struct FaultScript<S> {
     below: S,
     script: IntoIter<Mark, LIMIT>,
+    ghost few: { length script ≤ 64 },
 }
 
 impl<S: Store> FaultScript<S> {
+    ghost use Rattle.std.specs.Prelude.{◌≡◌, take};
+    ghost use Rattle.store.specs.Marks.{next_mark, one_used};
+    ghost use Rattle.store.specs.Scripted.{marks_left};
+
     /// The store under the first 64 of the marks.
     pub fn new(below: S, marks: &[Mark]) -> FaultScript<S>
         ensures below { result.below ≡ below }
@@ -60,6 +62,9 @@ impl<S: Store> FaultScript<S> {
 
 // `head` and `read` go alike, and each is shorter than a call of one function for both, with its closure's clauses.
 impl<S: Store> Store for FaultScript<S> {
+    ghost use Rattle.store.specs.Calls.{Put, Head, Read};
+    ghost use Rattle.store.specs.Scripted.{scripted, ScriptedPut, ScriptedHead, ScriptedRead};
+
     ghost means = { scripted S.Store.means };
 
     fn put(&mut self, id: u64, text: &[u8]) -> Result<(), StoreFault>
