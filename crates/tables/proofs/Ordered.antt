@@ -1,18 +1,16 @@
 -- A row put into an ordered list of rows.
-use Rattle.std.proofs.Common.{◌≡◌, ℕ, zero, suc, ◌+◌, ◌-◌, ◌<◌, ◌≤◌, true, false, cond, List, [], ◌∷◌, ◌++◌, length, get_or, take, drop, set, Some, Ok, Err, Result, IfOk, IfErr, Ordering, Less, Equal, Greater, sym, refl, ap, ◌∙◌, subst, inl, inr, arith, length-set}
+use Rattle.std.proofs.Common.{◌≡◌, ℕ, zero, suc, ◌+◌, ◌-◌, ◌<◌, ◌≤◌, true, false, cond, List, [], ◌∷◌, ◌++◌, length, get_or, take, drop, set, Some, sym, refl, ap, ◌∙◌, subst, inl, inr, arith, length-set}
 use mathlib.Core.Path.{fun_ext}
 use Rattle.std.specs.List.{insert}
-use Rattle.std.specs.List.Sorted.{IsBinarySearchResult, IsNonDecreasingBy, IsSearchInRange}
-use Rattle.std.specs.Ordering.{ordering_index}
 use Rattle.std.proofs.lemmas.List.{take-append-drop, get_or-set_same, get_or-set_other, get_or-take, length-take-le}
 use Rattle.std.proofs.lemmas.List.Edits.{length-insert, get_or-insert_below, get_or-insert_at, get_or-insert_above}
 use Rattle.std.proofs.lemmas.Bool.{cases_Bool, cases_lt, cases_eq, cases_order, both_ways, cond-true, cond-false}
 use Rattle.rows.specs.Rows.{Row}
 use Rattle.rows.specs.Sizes.{weight, total}
 use Rattle.mem_table.specs.Order.{no_row, below, has}
-use Rattle.tables.specs.Ranks.{ahead, rank_of, Precedes, Ascending, At, Between}
+use Rattle.tables.specs.Ranks.{ahead, Precedes, Ascending, At, Front, Back, Between}
 use Rattle.mem_table.specs.Meaning.{lookup, with_row}
-use Rattle.tables.proofs.Ahead.{Stands, from_rank, stands_at_less, stands_at_equal, stands_at_greater, ahead_trans, ahead_apart, ahead_keys}
+use Rattle.tables.proofs.Ahead.{ahead_trans, ahead_apart, ahead_keys}
 use Rattle.mem_table.proofs.Keys.{has_own, has_true, has_not, has_alike}
 use Rattle.tables.proofs.Totals.{total_set, total_inserted}
 
@@ -144,42 +142,18 @@ module _ (rs : List Row) (up : Ascending rs) (r : Row) (i : ℕ) where
       weighs = omega (arith, total_inserted weight rs i r);
     }
 
--- the answers of a search rise with the rows
-module _ (rs : List Row) (up : Ascending rs) (k : List ℕ) (n : ℕ) where
-  answer_rises : (i j : ℕ) → i < j → j < length rs → (o p : Ordering) → Stands (get_or rs i no_row) k n o → Stands (get_or rs j no_row) k n p → ordering_index o ≤ ordering_index p
-  answer_rises i j b l Less p f g = omega arith
-  answer_rises i j b l Equal Less f g =
-      absurd (ahead_apart (get_or rs i no_row).key k (get_or rs i no_row).seq n (ahead_trans (get_or rs i no_row).key (get_or rs j no_row).key k (get_or rs i no_row).seq (get_or rs j no_row).seq n (up i j (b, l)) g) f.0 f.1)
-  answer_rises i j b l Equal Equal f g = omega arith
-  answer_rises i j b l Equal Greater f g = omega arith
-  answer_rises i j b l Greater Less f g =
-      absurd (ahead_apart k k n n (ahead_trans k (get_or rs i no_row).key k n (get_or rs i no_row).seq n f (ahead_trans (get_or rs i no_row).key (get_or rs j no_row).key k (get_or rs i no_row).seq (get_or rs j no_row).seq n (up i j (b, l)) g)) refl refl)
-  answer_rises i j b l Greater Equal f g =
-      absurd (ahead_apart k (get_or rs j no_row).key n (get_or rs j no_row).seq (ahead_trans k (get_or rs i no_row).key (get_or rs j no_row).key n (get_or rs i no_row).seq (get_or rs j no_row).seq f (up i j (b, l))) (sym g.0) (sym g.1))
-  answer_rises i j b l Greater Greater f g = omega arith
+-- a search by halving: what one comparison says of the rows on its side
+module _ (rs : List Row) (up : Ascending rs) (k : List ℕ) (n i : ℕ) (l : i < length rs) where
+  pub front_more : ahead (get_or rs i no_row).key (get_or rs i no_row).seq k n ≡ true → Front rs k n (i + 1)
+  front_more h j b =
+      elim (cases_lt j i) [
+        | inl a ↦ ahead_trans (get_or rs j no_row).key (get_or rs i no_row).key k (get_or rs j no_row).seq (get_or rs i no_row).seq n (up j i (a, l)) h
+        | inr a ↦ (let q : j ≡ i = omega arith in ap (λ m. ahead (get_or rs m no_row).key (get_or rs m no_row).seq k n) q ∙ h)
+      ]
 
-  -- a search over numbers whose rows these are
-  module _ (ks : List ℕ) (long : length ks ≡ length rs) (ord : ℕ → Ordering) (is : (i : ℕ) (d : ℕ) → i < length ks → ord (get_or ks i d) ≡ rank_of (get_or rs i no_row).key (get_or rs i no_row).seq k n) where
-    at_place : (i d : ℕ) → i < length ks → Stands (get_or rs i no_row) k n (ord (get_or ks i d))
-    at_place i d l = from_rank (get_or rs i no_row) k n _ (is i d l)
-
-    rises : IsNonDecreasingBy (λ x. ordering_index (ord x)) ks
-    rises i j d b l =
-        elim (cases_lt i j) [
-          | inl h ↦ answer_rises i j h (omega (arith, long)) _ _ (at_place i d (omega arith)) (at_place j d l)
-          | inr h ↦ (let e : i ≡ j = omega arith in let q = ap (λ m. ordering_index (ord (get_or ks m d))) e in omega arith)
-        ]
-
-    pub found : (r : Result ℕ ℕ) → IsSearchInRange r (length ks) → IsBinarySearchResult ord ks r → IfOk r (At rs k n) × IfErr r (Between rs k n)
-    found (Ok i) b s =
-        let h = stands_at_equal (get_or rs i no_row) k n _ (at_place i 0 b) (s 0) in
-        (record { bound = omega (arith, b, long); key = h.0; seq = h.1 }, tt)
-    found (Err i) b s =
-        let p = s rises in (
-          tt,
-          record {
-            bound = omega (arith, b, long);
-            front = λ j l. stands_at_less (get_or rs j no_row) k n _ (at_place j 0 (omega (arith, b))) (p.0 j 0 (omega arith) l);
-            back = λ j l m. stands_at_greater (get_or rs j no_row) k n _ (at_place j 0 (omega (arith, long))) (p.1 j 0 l (omega (arith, long)));
-          },
-        )
+  pub back_more : ahead k n (get_or rs i no_row).key (get_or rs i no_row).seq ≡ true → Back rs k n i
+  back_more h j b m =
+      elim (cases_lt i j) [
+        | inl a ↦ ahead_trans k (get_or rs i no_row).key (get_or rs j no_row).key n (get_or rs i no_row).seq (get_or rs j no_row).seq h (up i j (a, m))
+        | inr a ↦ (let q : j ≡ i = omega arith in ap (λ m. ahead k n (get_or rs m no_row).key (get_or rs m no_row).seq) q ∙ h)
+      ]

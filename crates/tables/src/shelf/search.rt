@@ -39,6 +39,17 @@ impl Shelf {
         ensures there { IfOk result (At (order_of self.now) key.now seq) }
         ensures gap { IfErr result (Between (order_of self.now) key.now seq) }
     {
-        self.ranks.binary_search_by(|n| self.stand(*n, key, seq))
+        // A loop of our own, which ends at an equal row: the library's search goes on to the end.
+        let mut low = 0;
+        let mut high = self.ranks.len();
+        while low < high {
+            let middle = low + (high - low) / 2;
+            match self.stand(self.ranks[middle], key, seq) {
+                Ordering::Equal => return Ok(middle),
+                Ordering::Less => low = middle + 1,
+                Ordering::Greater => high = middle,
+            }
+        }
+        Err(low)
     }
 }

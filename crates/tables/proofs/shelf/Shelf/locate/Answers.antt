@@ -1,38 +1,53 @@
-use Rattle.std.proofs.Common.{◌≡◌, ℕ, ◌<◌, length, get_or, vec_items, slice_get, Ordering, IfOk, IfErr, sym, ap, ◌∙◌, rules}
+use Rattle.std.proofs.Common.{ℕ, ◌+◌, ◌-◌, ◌/◌, ◌<◌, length, get_or, vec_items, slice_get, sym, ap, ◌∙◌, arith}
 use Rattle.std.proofs.lemmas.List.{get_or_default}
-use Rattle.std.proofs.lemmas.Fn.{always_returns_same}
 use Rattle.std.proofs.lemmas.Option.{slice_get-get_or}
 use Rattle.mem_table.specs.Order.{no_row}
-use Rattle.tables.specs.Ranks.{At, Between, rank_of}
+use Rattle.tables.specs.Ranks.{rank_of}
 use Rattle.tables.specs.Slots.{no_slot, stands}
 use Rattle.tables.specs.Shelves.{order_of}
-use Rattle.tables.proofs.Ordered.{found}
+use Rattle.tables.proofs.Ahead.{Stands, from_rank, stands_at_less, stands_at_equal, stands_at_greater}
+use Rattle.tables.proofs.Ordered.{front_more, back_more}
 use Rattle.tables.proofs.Shelves.{long}
 use Rattle.tables.proofs.Standing.{standing_at}
 use Rattle.tables.proofs.shelf.Shelf.locate.Goals as goal
-use Rattle.tables.proofs.shelf.Shelf.locate.Goals.{After-binary_search_by}
+use Rattle.tables.proofs.shelf.Shelf.locate.Goals.{After-stand}
 
--- what the search asks of each number of the order
-abbrev asked : (c : After-binary_search_by) → ℕ → Ordering
-asked c n = stands (vec_items c.args.self.now.text) (slice_get (vec_items c.args.self.now.slots) n) c.args.key.now c.args.seq
+abbrev middle : (c : After-stand) → ℕ
+middle c = c.loop-low.low + (c.loop-low.high - c.loop-low.low) / 2
 
-asked_at : (c : After-binary_search_by) (i d : ℕ) → i < length (vec_items c.args.self.now.ranks)
-    → asked c (get_or (vec_items c.args.self.now.ranks) i d) ≡ rank_of (get_or (order_of c.args.self.now) i no_row).key (get_or (order_of c.args.self.now) i no_row).seq c.args.key.now c.args.seq
-asked_at c i d l =
+within : (c : After-stand) → middle c < length (order_of c.args.self.now)
+within c = omega (arith, c.loop-low.invariant.1, c.loop-low-test.true)
+
+inner : (c : After-stand) → middle c < length (vec_items c.args.self.now.ranks)
+inner c = omega (arith, within c, long c.args.self.now)
+
+-- the answer says how the row in the middle stands
+stood : (c : After-stand) → Stands (get_or (order_of c.args.self.now) (middle c) no_row) c.args.key.now c.args.seq c.stand.result
+stood c =
     let s = c.args.self.now in
-    let e : get_or (vec_items s.ranks) i d ≡ get_or (vec_items s.ranks) i 0 = get_or_default (vec_items s.ranks) i d 0 l in
-    ap (asked c) e
-    ∙ ap (λ o. stands (vec_items s.text) o c.args.key.now c.args.seq) (slice_get-get_or (vec_items s.slots) (get_or (vec_items s.ranks) i 0) no_slot (s.kept.inside i l))
-    ∙ ap (λ r. rank_of r.key r.seq c.args.key.now c.args.seq) (sym (standing_at (vec_items s.text) (vec_items s.slots) (vec_items s.ranks) i l))
+    let e = c.index.ensures ∙ get_or_default (vec_items s.ranks) (middle c) c.index.result.now 0 (inner c) in
+    from_rank (get_or (order_of s) (middle c) no_row) c.args.key.now c.args.seq _
+    (c.stand.ensures
+    ∙ ap (λ n. stands (vec_items s.text) (slice_get (vec_items s.slots) n) c.args.key.now c.args.seq) e
+    ∙ ap (λ o. stands (vec_items s.text) o c.args.key.now c.args.seq) (slice_get-get_or (vec_items s.slots) (get_or (vec_items s.ranks) (middle c) 0) no_slot (s.kept.inside (middle c) (inner c)))
+    ∙ ap (λ r. rank_of r.key r.seq c.args.key.now c.args.seq) (sym (standing_at (vec_items s.text) (vec_items s.slots) (vec_items s.ranks) (middle c) (inner c))))
 
-place : (c : After-binary_search_by) → IfOk c.binary_search_by.result (At (order_of c.args.self.now) c.args.key.now c.args.seq) × IfErr c.binary_search_by.result (Between (order_of c.args.self.now) c.args.key.now c.args.seq)
-place c =
+pub returns-in-Equal-clause-there : goal.returns-in-Equal-clause-there
+returns-in-Equal-clause-there c =
+    let d = (goal.at.returns-in-Equal-clause-there c).After-stand in
+    let h = stands_at_equal (get_or (order_of c.args.self.now) (middle d) no_row) c.args.key.now c.args.seq _ (stood d) c.in-Equal.is in
+    record { bound = within d; key = h.0; seq = h.1 }
+
+pub loop-low-preserved-in-Less : goal.loop-low-preserved-in-Less
+loop-low-preserved-in-Less c =
+    let d = (goal.at.loop-low-preserved-in-Less c).After-stand in
     let s = c.args.self.now in
-    let facts = rw c.deref.ensures.value at c.binary_search_by.ensures in
-    found (order_of s) s.kept.ordered c.args.key.now c.args.seq (vec_items s.ranks) (sym (long s)) (asked c) (asked_at c) _ facts.bound (facts.position (asked c) (always_returns_same _ _ _ (λ a r f called. search rules)))
+    let h = stands_at_less (get_or (order_of s) (middle d) no_row) c.args.key.now c.args.seq _ (stood d) c.in-Less.is in
+    (omega arith, c.loop-low.invariant.1, front_more (order_of s) s.kept.ordered c.args.key.now c.args.seq (middle d) (within d) h, c.loop-low.invariant.3)
 
-pub returns-clause-there : goal.returns-clause-there
-returns-clause-there c = (place (goal.at.returns-clause-there c).After-binary_search_by).0
-
-pub returns-clause-gap : goal.returns-clause-gap
-returns-clause-gap c = (place (goal.at.returns-clause-gap c).After-binary_search_by).1
+pub loop-low-preserved : goal.loop-low-preserved
+loop-low-preserved c =
+    let d = (goal.at.loop-low-preserved c).After-stand in
+    let s = c.args.self.now in
+    let h = stands_at_greater (get_or (order_of s) (middle d) no_row) c.args.key.now c.args.seq _ (stood d) c.in-Greater.is in
+    (omega arith, omega (arith, within d), c.loop-low.invariant.2, back_more (order_of s) s.kept.ordered c.args.key.now c.args.seq (middle d) (within d) h)
