@@ -26,6 +26,16 @@ fn wal_object_exists<S: Store>(store: &mut S, id: u64) -> Result<bool, StoreFaul
     }
 }
 
+/// The power of two with this exponent.
+// A shift, since the library's `pow` multiplies in a loop, and a probe asks for up to 48 powers.
+fn power(exp: u32) -> u64
+    requires { exp < 48 }
+    ensures value { result ≡ 2 ^ exp }
+    ensures bound { result < 2 ^ 48 }
+{
+    1u64 << exp
+}
+
 /// Where a probe starts, which is not above the last id.
 // The store is passed beside it: if it were a field, each promise would have to say that the start stays.
 #[derive(Clone, Copy)]
@@ -42,7 +52,7 @@ impl Start {
     {
         let mut answers = [Ok(false); ROUND_SIZE];
         for (j, answer) in answers.iter_mut().enumerate() {
-            let offset = 2u64.pow(exp + j as u32);
+            let offset = power(exp + j as u32);
             *answer = wal_object_exists(store, self.id + offset);
         }
         answers
@@ -74,8 +84,8 @@ impl Start {
         requires below { absent < 48 }
         ensures { Halved (S.Store.means store.old) (S.Store.means store.new) self.id absent result }
     {
-        let mut left = 2u64.pow(absent - 1) + 1;
-        let mut right = 2u64.pow(absent);
+        let mut left = power(absent - 1) + 1;
+        let mut right = power(absent);
         let mut heads = 0;
         while left < right {
             let mid = left + (right - left) / 2;

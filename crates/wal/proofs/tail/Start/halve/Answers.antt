@@ -1,5 +1,4 @@
 use Rattle.std.proofs.Common.{◌≡◌, ℕ, ◌+◌, ◌-◌, ◌/◌, ◌^◌, ◌<◌, ◌≤◌, true, false, sym, ap, ◌∙◌, subst, inl, inr, arith}
-use Rattle.std.proofs.lemmas.Nat.{pow_below}
 use Rattle.wal.specs.Tails.{behind}
 use Rattle.wal.proofs.Keeping.{same_refl, same_trans, tells_back, tells_ok, tells_err, pair_is, carried}
 use Rattle.wal.proofs.Halving.{Between, started, more, done, answer, asks_middle, up, down, offset_at, halves_at}
@@ -10,10 +9,9 @@ loop-left-init g c =
     let n = c.args.absent - 1 in
     let p = behind (g.S.Store.means c.args.store.now).held c.args.self.id in
     let e : c.args.absent ≡ n + 1 = omega arith in
-    let b = started p n (c.pow-left.result + 1) c.pow-right.result (ap (λ (k : ℕ). k + 1) c.pow-left.ensures) (c.pow-right.ensures ∙ ap (λ (k : ℕ). 2 ^ k) e) in
+    let b = started p n (c.power-left.result + 1) c.power-right.result (ap (λ (k : ℕ). k + 1) c.power-left.ensures.value) (c.power-right.ensures.value ∙ ap (λ (k : ℕ). 2 ^ k) e) in
     let z : n ≡ n - 0 = omega arith in
-    let r : 2 ^ c.args.absent < 2 ^ 48 = pow_below c.args.absent 48 c.requires.below in
-    (omega arith, omega arith, same_refl _, subst (λ (j : ℕ). Between p n (c.pow-left.result + 1) c.pow-right.result j) z b)
+    (omega arith, omega arith, same_refl _, subst (λ (j : ℕ). Between p n (c.power-left.result + 1) c.power-right.result j) z b)
 
 pub returns-in_err-wal_object_exists : goal.returns-in_err-wal_object_exists
 returns-in_err-wal_object_exists g c =
