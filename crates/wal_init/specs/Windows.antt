@@ -1,5 +1,5 @@
 -- What a window is in contracts, and what each of its calls does.
-use Rattle.std.specs.Prelude.{◌≡◌, ℕ, ◌+◌, ◌-◌, ◌<◌, ◌≤◌, min, Bool, true, false, ◌&&◌, List, [], ◌∷◌, ◌++◌, drop, replicate, Some, None, Option, Result, nat_lt, slice_index_or, slice_set}
+use Rattle.std.specs.Prelude.{◌≡◌, ℕ, ◌+◌, ◌-◌, ◌^◌, ◌<◌, ◌≤◌, min, Bool, true, false, ◌&&◌, List, [], ◌∷◌, ◌++◌, length, drop, replicate, Some, None, Option, Result, nat_lt, slice_index_or, slice_set}
 use Rattle.store.specs.declared.fault.StoreFault.{StoreFault}
 use Rattle.store.specs.Meaning.{Meaning}
 use Rattle.store.specs.Calls.{Head}
@@ -16,6 +16,14 @@ pub record Windowed : Type 0 where
   pub most : ℕ
   -- for the next id and those behind it
   pub slots : List SlotState
+
+-- what holds of every window: its last id is one that a file may have, and it has 1 to 16 slots
+pub record Sound (w : Windowed) : Type 0 where
+  pub small : w.end ≤ 2 ^ 62
+  pub covered : w.next ≤ w.end + 1
+  pub some : 0 < w.most
+  pub narrow : w.most ≤ 16
+  pub long : length w.slots ≡ 16
 
 -- a window of which no file was asked for
 abbrev pub begun : ℕ → ℕ → ℕ → Windowed

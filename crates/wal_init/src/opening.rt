@@ -2,6 +2,7 @@
 
 ghost use Rattle.std.specs.Prelude.{◌≡◌, false};
 ghost use Rattle.wal_init.specs.Opening.{opened, ended, fence_of, unasked_at, Arrived, Taken};
+ghost use Rattle.wal_init.specs.Windows.{Sound};
 
 use super::grant::Grant;
 use super::record::{ManifestRecord, Options};
@@ -55,6 +56,7 @@ impl Opening {
     /// Asks for the file so far behind the front, once, and says whether it asked.
     pub fn arrive<S: Store>(&mut self, store: &mut S, k: usize) -> bool
         ensures arrived { Arrived (S.Store.means store.old) (S.Store.means store.new) self.old self.new k result }
+        ensures sound { Sound self.new.window }
         ensures untouched { result ≡ false → store.new ≡ store.old }
     {
         self.window.arrive(store, k)
@@ -63,6 +65,7 @@ impl Opening {
     /// Takes the file at the front, which is asked for if it was not before, and moves the window on.
     pub fn take_front<S: Store>(&mut self, store: &mut S) -> Option<Front>
         ensures taken { Taken (S.Store.means store.old) (S.Store.means store.new) self.old self.new result }
+        ensures sound { Sound self.new.window }
         ensures untouched { unasked_at self.old 0 ≡ false → store.new ≡ store.old }
     {
         self.window.take_front(store)
@@ -98,7 +101,8 @@ impl Opening {
 
     /// The id of its fence.
     pub fn fence(&self) -> u64
-        ensures { result ≡ fence_of self.now }
+        ensures fence { result ≡ fence_of self.now }
+        ensures sound { Sound self.now.window }
     {
         self.window.end()
     }

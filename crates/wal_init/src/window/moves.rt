@@ -1,7 +1,7 @@
 //! What happens to a window.
 
 ghost use Rattle.std.specs.Prelude.{◌≡◌, ◌+◌, ◌^◌, ◌<◌, ◌≤◌, false};
-ghost use Rattle.wal_init.specs.Windows.{open_slots, begun, over, unasked, Arrives, Takes};
+ghost use Rattle.wal_init.specs.Windows.{open_slots, begun, over, unasked, Arrives, Sound, Takes};
 
 use super::{Front, MOST_SLOTS, Window};
 use crate::slot::{Event, SlotState};
@@ -24,7 +24,8 @@ impl Window {
 
     /// The last id.
     pub fn end(&self) -> u64
-        ensures { result ≡ self.now.end }
+        ensures end { result ≡ self.now.end }
+        ensures sound { Sound self.now }
     {
         self.end
     }
@@ -41,6 +42,7 @@ impl Window {
     /// Asks for the file so far behind the front, once, and says whether it asked.
     pub fn arrive<S: Store>(&mut self, store: &mut S, k: usize) -> bool
         ensures arrives { Arrives (S.Store.means store.old) (S.Store.means store.new) self.old self.new k result }
+        ensures sound { Sound self.new }
         ensures untouched { result ≡ false → store.new ≡ store.old }
     {
         if k >= self.open_slots() {
@@ -54,6 +56,7 @@ impl Window {
     /// Takes the file at the front, which is asked for if it was not before, and moves the window on.
     pub fn take_front<S: Store>(&mut self, store: &mut S) -> Option<Front>
         ensures takes { Takes (S.Store.means store.old) (S.Store.means store.new) self.old self.new result }
+        ensures sound { Sound self.new }
         ensures untouched { unasked self.old 0 ≡ false → store.new ≡ store.old }
     {
         if self.next > self.end {
