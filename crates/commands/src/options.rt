@@ -6,7 +6,6 @@ ghost use Rattle.script.specs.declared.reason.Reason.TheVariants.{UnknownOption}
 ghost use Rattle.script.specs.Words.{listed};
 
 use crate::arguments::as_number;
-use script::parts::split_once;
 use script::reason::Reason;
 use script::words::Words;
 
@@ -56,13 +55,23 @@ impl TryFrom<&[u8]> for Key {
 }
 
 /// Parts a word into an option's name and its value.
+// Each name is tried as a beginning: parting the word first and then naming the option reads each name twice.
 fn assignment_of(word: &[u8]) -> Result<(Key, &[u8]), Reason>
     ensures { Assigns word.now result }
 {
-    let Some((name, value)) = split_once(word, b'=') else {
-        return Err(Reason::UnknownOption);
-    };
-    Ok((Key::try_from(name)?, value))
+    if let Some(value) = word.strip_prefix(b"sst_batch_size=") {
+        Ok((Key::SstBatchSize, value))
+    } else if let Some(value) = word.strip_prefix(b"max_wal_bytes_size=") {
+        Ok((Key::MaxWalBytesSize, value))
+    } else if let Some(value) = word.strip_prefix(b"max_memtable_bytes=") {
+        Ok((Key::MaxMemtableBytes, value))
+    } else if let Some(value) = word.strip_prefix(b"block_size=") {
+        Ok((Key::BlockSize, value))
+    } else if let Some(value) = word.strip_prefix(b"min_seq=") {
+        Ok((Key::MinSeq, value))
+    } else {
+        Err(Reason::UnknownOption)
+    }
 }
 
 /// The value that a word gives an option.

@@ -1,16 +1,18 @@
-use Rattle.std.proofs.Common.{Err, sym, refl, ap, ◌∙◌, subst}
-use Rattle.std.proofs.lemmas.Result.{err_from_is_err_and}
-use Rattle.commands.proofs.Setting.{named, unnamed, unsigned}
-use Rattle.commands.specs.Settings.{Assigns}
+use Rattle.std.proofs.Common.{◌≡◌, ℕ, List, ◌++◌, Some, Option, Bor, codes, ◌≢◌, subst}
+use Rattle.std.specs.Option.{MatchOption}
+use Rattle.std.proofs.lemmas.Slice.Eq.{strip_prefix_is}
+use Rattle.std.proofs.lemmas.Bool.Decides.{Decides-eqb}
 use Rattle.commands.proofs.options.assignment_of.Goals as goal
 
-pub returns-in_default : goal.returns-in_default
-returns-in_default c = (unsigned c.args.word.now c.in_default.ensures, refl)
+-- what stands behind a beginning that the word has
+behind : (w p : List ℕ) (r : Option (Bor (List ℕ))) (v : Bor (List ℕ)) → MatchOption r ((rest : List ℕ) → w ≢ p ++ rest) (λ x. w ≡ p ++ x.now) → r ≡ Some v → w ≡ p ++ v.now
+behind w p r v h e = subst (λ o. MatchOption o ((rest : List ℕ) → w ≢ p ++ rest) (λ x. w ≡ p ++ x.now)) e h
 
-pub returns-in_err-try_from : goal.returns-in_err-try_from
-returns-in_err-try_from c =
-    let p = err_from_is_err_and c.from_residual.result c.from_residual.ensures.1 in
-    subst (Assigns c.args.word.now) (sym (p.1 ∙ ap Err p.2)) (unnamed c.args.word.now c.in-Some.name.now c.in-Some.value.now c.in-Some.ensures c.in_err-try_from.ensures.0, c.in_err-try_from.ensures.1)
+pub returns-in-Some-strip_prefix : goal.returns-in-Some-strip_prefix
+returns-in-Some-strip_prefix c = behind c.args.word.now (codes "max_wal_bytes_size=") _ _ (strip_prefix_is Decides-eqb c.args.word.now (codes "max_wal_bytes_size=") _ c.strip_prefix-in_default.ensures.cases) c.in-Some-strip_prefix.is
 
-pub returns : goal.returns
-returns c = named c.args.word.now c.in-Some.name.now c.in-Some.value.now c.in_ok-try_from.field-0 c.in-Some.ensures c.in_ok-try_from.ensures
+pub returns-in-Some-strip_prefix-2 : goal.returns-in-Some-strip_prefix-2
+returns-in-Some-strip_prefix-2 c = behind c.args.word.now (codes "max_memtable_bytes=") _ _ (strip_prefix_is Decides-eqb c.args.word.now (codes "max_memtable_bytes=") _ c.strip_prefix-in_default-strip_prefix.ensures.cases) c.in-Some-strip_prefix-2.is
+
+pub returns-in-Some-strip_prefix-3 : goal.returns-in-Some-strip_prefix-3
+returns-in-Some-strip_prefix-3 c = behind c.args.word.now (codes "block_size=") _ _ (strip_prefix_is Decides-eqb c.args.word.now (codes "block_size=") _ c.strip_prefix-in_default-strip_prefix-2.ensures.cases) c.in-Some-strip_prefix-3.is
