@@ -33,7 +33,9 @@ fn rehearse_one<C: Console, R: Files + Print + AllocGlobal>(
 ) -> Result<(), Failure> {
     println!(rt; "== {name}")?;
     let text = fs::read(rt, name)?;
-    if let Err(failure) = run_one::<C, R>(rt, text.as_slice()) {
+    // Its want of memory is none of the script's errors: it ends the program.
+    let mut out = BufWriter::new(rt.alloc(), io::writer(rt))?;
+    if let Err(failure) = run::<C, _>(rt.alloc(), text.as_slice(), &mut out) {
         println!(rt; "{failure}")?;
     }
     Ok(())
