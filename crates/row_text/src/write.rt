@@ -1,54 +1,48 @@
 //! Writing lines.
-ghost use Rattle.std.specs.Prelude.{◌≡◌, ◌++◌, is_ok, if◌then◌else◌};
+ghost use Rattle.std.specs.Prelude.{◌≡◌, [], ◌∷◌, ◌++◌, is_ok, if◌then◌else◌};
 ghost use Rattle.rows.specs.Entries.{row_of};
 ghost use Rattle.rows.specs.Lines.{line, tick};
-ghost use Rattle.row_text.specs.Writing.{joined};
+ghost use Rattle.row_text.specs.Writing.{Appended};
 
 use itoa::Buffer;
 use rows::RowEntry;
 use std::alloc::AllocError;
 
-/// Appends some parts, one behind the other. For want of memory nothing is appended.
-fn append_all(parts: &[&[u8]], out: &mut Vec<u8>) -> Result<(), AllocError>
-    ensures { out.new.items ≡ (if is_ok result then out.old.items ++ joined parts.now else out.old.items) }
+/// Appends a tick, a lone minus where there is none, and a tab.
+fn append_tick(ts: Option<i64>, out: &mut Vec<u8>) -> Result<(), AllocError>
+    ensures { Appended (tick ts ++ (9 ∷ [])) out.old.items out.new.items result }
 {
-    let len = out.len();
-    for part in parts {
-        if let Err(full) = out.extend_from_slice(part) {
-            out.truncate(len);
-            return Err(full);
-        }
-    }
-    Ok(())
+    let Some(z) = ts else {
+        return out.extend_from_slice(b"-\t");
+    };
+    out.extend_from_slice(Buffer::new().format(z).as_bytes())?;
+    out.extend_from_slice(b"\t")
 }
 
-/// The text of a tick: a lone minus where there is none.
-fn tick_text(ts: Option<i64>, buffer: &mut Buffer) -> &[u8]
-    ensures { result.now ≡ tick ts }
+/// Appends the line of a row, as far as there is memory.
+fn append_line(row: RowEntry<'_>, out: &mut Vec<u8>) -> Result<(), AllocError>
+    ensures { Appended (line (row_of row.entry)) out.old.items out.new.items result }
 {
-    match ts {
-        Some(z) => buffer.format(z).as_bytes(),
-        None => b"-",
-    }
+    let (key, digits) = (row.key, row.value.digits());
+    out.extend_from_slice(Buffer::new().format(row.seq).as_bytes())?;
+    out.extend_from_slice(&[b'\t', row.value.kind().into(), b'\t'])?;
+    append_tick(row.create_ts, out)?;
+    append_tick(row.expire_ts, out)?;
+    out.extend_from_slice(key)?;
+    out.extend_from_slice(b"\t")?;
+    out.extend_from_slice(digits)?;
+    out.extend_from_slice(b"\n")?;
+    Ok(())
 }
 
 /// Appends the line of a row. For want of memory nothing is appended.
 pub fn write_row(row: RowEntry<'_>, out: &mut Vec<u8>) -> Result<(), AllocError>
     ensures { out.new.items ≡ (if is_ok result then out.old.items ++ line (row_of row.entry) else out.old.items) }
 {
-    let (mut seq, mut created, mut expires) = (Buffer::new(), Buffer::new(), Buffer::new());
-    let (key, digits) = (row.key, row.value.digits());
-    let parts: [&[u8]; 10] = [
-        seq.format(row.seq).as_bytes(),
-        &[b'\t', row.value.kind().into(), b'\t'],
-        tick_text(row.create_ts, &mut created),
-        b"\t",
-        tick_text(row.expire_ts, &mut expires),
-        b"\t",
-        key,
-        b"\t",
-        digits,
-        b"\n",
-    ];
-    append_all(&parts, out)
+    let len = out.len();
+    let done = append_line(row, out);
+    if done.is_err() {
+        out.truncate(len);
+    }
+    done
 }
