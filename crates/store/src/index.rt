@@ -5,7 +5,6 @@ ghost use Rattle.store.specs.Index.{extent_of, Ascending, Present, Absent};
 
 use super::extent::Extent;
 use std::alloc::{AllocError, Global};
-use std::cmp::Ordering;
 
 /// Extents in the order of their ids.
 // A sorted vector, since a map would ask for memory in a call: here it is all reserved at the making.
@@ -34,10 +33,14 @@ impl Index {
         let mut high = self.extents.len();
         while low < high {
             let middle = low + (high - low) / 2;
-            match self.extents[middle].id.cmp(&id) {
-                Ordering::Equal => return Ok(middle),
-                Ordering::Less => low = middle + 1,
-                Ordering::Greater => high = middle,
+            let found = self.extents[middle].id;
+            if found == id {
+                return Ok(middle);
+            }
+            if found < id {
+                low = middle + 1;
+            } else {
+                high = middle;
             }
         }
         Err(low)
